@@ -1,0 +1,55 @@
+-- A batch: its sizes, its geometry, and where the columns of its cycles stand (document 01, "Columns").
+-- Assumes nothing.
+use mathlib.Core.Bool.{Bool, true, false, cond, _||_}
+use mathlib.Core.List.{List, [], _∷_}
+use Prim.Native.Nat.{ℕ, _+_, _-_, _*_, _/_, _%_}
+use lib.Dec.{eqb, ltb}
+use Rattle.layout.specs.declared.InstanceGeometry.{InstanceGeometry}
+use Rattle.layout.specs.declared.GeometryAnswer.{GeometryAnswer}
+use Rattle.layout.specs.declared.GeometryAnswer.the-variants.{Of, Refused as NoGeometry}
+use Rattle.layout.specs.declared.ColumnAnswer.{ColumnAnswer}
+use Rattle.layout.specs.declared.ColumnAnswer.the-variants.{At, Refused as NoColumn}
+use Rattle.layout.specs.declared.CycleColumnAnswer.{CycleColumnAnswer}
+use Rattle.layout.specs.declared.CycleColumnAnswer.the-variants.{At as In, Refused as NoCycleColumn}
+use Rattle.layout.specs.Columns.{W-COLS, ONE-COL}
+use Rattle.layout.specs.Questions.{no}
+
+-- the powers of two from 1 to 256
+abbrev pub sizes : List ℕ
+sizes = 1 ∷ 2 ∷ 4 ∷ 8 ∷ 16 ∷ 32 ∷ 64 ∷ 128 ∷ 256 ∷ []
+
+abbrev pub among : ℕ → List ℕ → Bool
+among n [] = false
+among n (x ∷ xs) = eqb n x || among n xs
+
+-- question 1
+unfoldable pub allowed : ℕ → Bool
+allowed cpi = among cpi sizes
+
+unfoldable pub geometryOf : ℕ → GeometryAnswer
+geometryOf cpi =
+    cond (allowed cpi)
+    (Of (record { cpi = cpi; «w_cols» = 2048 * cpi; m = 4096 * cpi; «one_col» = 2048 * cpi; w128 = 2048 * cpi / 128 }))
+    (NoGeometry (no 1 0))
+
+-- witness column c of cycle d stands at c * cpi + d; a public column after all of these, whatever d
+unfoldable pub columnAt : ℕ → ℕ → ℕ → ℕ
+columnAt cpi c d = cond (ltb c W-COLS) (c * cpi + d) (W-COLS * cpi + (c - ONE-COL))
+
+-- the batch column of a column below the limit: questions 1, 14, 15
+unfoldable pub mapped : ℕ → ℕ → ℕ → ℕ → ColumnAnswer
+mapped limit cpi c d =
+    cond (allowed cpi)
+    (cond (ltb c limit)
+    (cond (ltb d cpi) (At (columnAt cpi c d))
+    (NoColumn (no 15 0)))
+    (NoColumn (no 14 0)))
+    (NoColumn (no 1 0))
+
+-- the column and the cycle of a batch column below one_col: questions 1, 14
+unfoldable pub unmapped : ℕ → ℕ → CycleColumnAnswer
+unmapped cpi b =
+    cond (allowed cpi)
+    (cond (ltb b (W-COLS * cpi)) (In (b / cpi) (b % cpi))
+    (NoCycleColumn (no 14 0)))
+    (NoCycleColumn (no 1 0))
