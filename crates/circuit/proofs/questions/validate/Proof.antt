@@ -1,0 +1,101 @@
+-- `circuit::questions::validate` meets its contract: what is left, asked from here, answers as the whole does, at every turn.
+-- Assumes nothing.
+use mathlib.Core.Path.{_≡_, refl, sym, ap, _∙_}
+use mathlib.Core.List.{List}
+use Prim.Native.Nat.{ℕ, _+_, _≤_, _<_, _-_}
+use native.Mathlib.Numerals.{add-one}
+use native.Mathlib.Omega.{arith}
+use borrow.Author.Needs.{needs}
+use borrow.Author.Tests.{lt-ltb, le-ltb}
+use lib.ListN.{length, getD, drop, drop-of-length-le}
+use lib.Seq.{drop-cons}
+use Rattle.layout.specs.Questions.{passed, refused}
+use Rattle.circuit.specs.declared.questions.Progress.{Progress}
+use Rattle.circuit.specs.Valid.{afterWord, onward, validFrom, validated}
+use Rattle.circuit.proofs.questions.validate.Statement.{statement}
+use Rattle.circuit.proofs.questions.validate.Tie as tie
+
+-- a turn: what stands at index i decides, and the rest is asked from i + 1
+turn :
+    (ws : List ℕ) (i low kind : ℕ) (s : Progress) → i < length ws → s ≡ afterWord low kind (getD ws i 0)
+    → validFrom i low kind (drop i ws) ≡ onward s i (λ l k. validFrom (i + 1) l k (drop (i + 1) ws))
+unfolding validFrom
+turn ws i low kind s h e = rw (e, add-one, drop-cons ws i 0)
+
+fits : (ws : List ℕ) → length ws ≤ 16384 → validFrom 0 0 0 ws ≡ validated ws
+unfolding validated
+fits ws h = refused _ _ _ (le-ltb _ _ h)
+
+abbrev Inv-loop : tie.InvT-loop
+Inv-loop listing low₀ kind₀ i₀ low kind i = (i ≤ length listing) × (validFrom i low kind (drop i listing) ≡ validFrom 0 0 0 listing)
+
+abbrev μ-loop : tie.MeasureT-loop
+μ-loop listing low₀ kind₀ i₀ low kind i = length listing - i
+
+returns : tie.Need-returns Inv-loop μ-loop
+unfolding validated
+returns c = passed _ _ _ (lt-ltb _ _ (c .if1 .taken))
+
+loop-holds : tie.Need-loop-holds Inv-loop μ-loop
+loop-holds c = (omega arith, refl)
+
+mul-after-word : tie.Need-mul-after-word Inv-loop μ-loop
+mul-after-word c = search needs
+
+shared-slice-read-after-word : tie.Need-shared-slice-read-after-word Inv-loop μ-loop
+shared-slice-read-after-word c = search needs
+
+after-word-requires : tie.Need-after-word-requires Inv-loop μ-loop
+after-word-requires c κs = search needs
+
+enum-known-l : tie.Need-enum-known-l Inv-loop μ-loop
+enum-known-l c = search needs
+
+enum-known-number : tie.Need-enum-known-number Inv-loop μ-loop
+enum-known-number c = search needs
+
+returns-2 : tie.Need-returns-2 Inv-loop μ-loop
+returns-2 c =
+    let b = c .before .before .before in let t = b .before .before .before .loop in
+    sym (turn _ (t .i) (t .low) (t .kind) _ (b .before .before .loop-test .taken) (sym (c .before .number .given .1) ∙ b .after-word .ensures))
+    ∙ t .inv .1 ∙ fits _ (b .before .before .before .before .if1 .left)
+
+add-i : tie.Need-add-i Inv-loop μ-loop
+add-i c = search needs
+
+loop-less : tie.Need-loop-less Inv-loop μ-loop
+loop-less c = search needs
+
+loop-again : tie.Need-loop-again Inv-loop μ-loop
+loop-again c =
+    let b = c .before .before .before in let t = b .before .before .before .loop in (
+      omega arith,
+      sym (turn _ (t .i) (t .low) (t .kind) _ (b .before .before .loop-test .taken) (sym (c .before .l .given .1) ∙ b .after-word .ensures))
+          ∙ t .inv .1,
+    )
+
+returns-3 : tie.Need-returns-3 Inv-loop μ-loop
+unfolding validFrom
+returns-3 c =
+    let t = c .before .loop in
+    sym (ap (validFrom (t .i) (t .low) (t .kind)) (drop-of-length-le _ (c .loop-test .left)))
+    ∙ t .inv .1 ∙ fits _ (c .before .before .if1 .left)
+
+pub validate-spec : {M : Type 1} → statement M
+validate-spec =
+    tie.close
+    (tie.spec
+    Inv-loop
+    μ-loop
+    returns
+    loop-holds
+    mul-after-word
+    shared-slice-read-after-word
+    after-word-requires
+    enum-known-l
+    enum-known-number
+    returns-2
+    add-i
+    loop-less
+    loop-again
+    returns-3)

@@ -1,0 +1,52 @@
+-- `circuit::search::next_mark` meets its contract: the count from here is the count asked for, at every turn.
+-- Assumes nothing.
+use mathlib.Core.Path.{_≡_, refl, sym, _∙_}
+use Prim.Native.Nat.{_+_, _≤_, _-_}
+use native.Mathlib.Omega.{arith}
+use borrow.Author.Needs.{needs}
+use borrow.Author.Tests.{eq-eqb, ne-eqb}
+use lib.ListN.{length, drop}
+use Rattle.circuit.specs.Words.{isMark}
+use Rattle.circuit.specs.Found.{until}
+use Rattle.circuit.specs.Search.{stops, goes, ends}
+use Rattle.circuit.proofs.search.next_mark.Statement.{statement}
+use Rattle.circuit.proofs.search.next_mark.Tie as tie
+
+abbrev Inv-loop : tie.InvT-loop
+Inv-loop listing i k₀ k = (k ≤ length listing) × (k + until isMark (drop k listing) ≡ i + until isMark (drop i listing))
+
+abbrev μ-loop : tie.MeasureT-loop
+μ-loop listing i k₀ k = length listing - k
+
+loop-holds : tie.Need-loop-holds Inv-loop μ-loop
+loop-holds c = (c .pre, refl)
+
+mul-if1 : tie.Need-mul-if1 Inv-loop μ-loop
+mul-if1 c = search needs
+
+shared-slice-read-if1 : tie.Need-shared-slice-read-if1 Inv-loop μ-loop
+shared-slice-read-if1 c = search needs
+
+returns : tie.Need-returns Inv-loop μ-loop
+returns c =
+    let t = c .before .before .before .loop in
+    sym (stops isMark _ (t .k) (c .before .before .loop-test .taken) (eq-eqb _ _ (c .if1 .taken))) ∙ t .inv .1
+
+add-k : tie.Need-add-k Inv-loop μ-loop
+add-k c = search needs
+
+loop-less : tie.Need-loop-less Inv-loop μ-loop
+loop-less c = search needs
+
+loop-again : tie.Need-loop-again Inv-loop μ-loop
+loop-again c =
+    let t = c .before .before .before .loop in
+    (omega arith, sym (goes isMark _ (t .k) (c .before .before .loop-test .taken) (ne-eqb _ _ (c .if1 .left))) ∙ t .inv .1)
+
+returns-2 : tie.Need-returns-2 Inv-loop μ-loop
+returns-2 c = let t = c .before .loop in sym (ends isMark _ (t .k) (c .loop-test .left)) ∙ t .inv .1
+
+pub next-mark-spec : {M : Type 1} → statement M
+next-mark-spec =
+    tie.close
+    (tie.spec Inv-loop μ-loop loop-holds mul-if1 shared-slice-read-if1 returns add-k loop-less loop-again returns-2)

@@ -1,0 +1,9 @@
+pub mod Words
+pub mod Rows
+pub mod Circuit
+pub mod Parse
+pub mod Valid
+pub mod Found
+pub mod Search
+pub mod Batched
+pub mod House

@@ -1,0 +1,42 @@
+// The constraint listing: its words, the rows that they stand for, the house listing, its questions, and the search for a row.
+pub mod batch;
+pub mod questions;
+pub mod search;
+mod table;
+pub mod words;
+
+use crate::table::HOUSE;
+ghost use mathlib.Core.Path.{_≡_};
+ghost use Rattle.circuit.specs.Circuit.{circuitWords};
+
+// The relation of a row: over bits, or over packed words. Both are checked over the field.
+pub enum Relation {
+    Bin,
+    Fld,
+}
+
+// The coefficient of a term: zero, or 2^k.
+pub enum Coefficient {
+    Zero,
+    Power(u32),
+}
+
+// What a word of a listing stands for: the mark of a row, or a term on side A (0), B (1) or C (2).
+pub enum Word {
+    Mark {
+        relation: Relation,
+        row: usize,
+    },
+    Term {
+        side: u32,
+        coefficient: Coefficient,
+        column: usize,
+    },
+}
+
+// The house listing.
+pub fn build_circuit() -> [u32; 3499]
+    ensures { λ r. ⌜ r ≡ circuitWords ⌝ }
+{
+    HOUSE
+}
