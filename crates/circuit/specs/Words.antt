@@ -2,7 +2,7 @@
 -- Assumes nothing.
 use mathlib.Core.Bool.{Bool, cond}
 use Prim.Native.Nat.{ℕ, _+_, _*_, _/_, _%_, _^_}
-use lib.Dec.{eqb}
+use lib.Dec.{eqb, ltb}
 use Rattle.circuit.specs.declared.Relation.{Relation}
 use Rattle.circuit.specs.declared.Relation.the-variants.{Bin, Fld}
 use Rattle.circuit.specs.declared.Coefficient.{Coefficient}
@@ -18,8 +18,12 @@ bits lo n w = w / 2 ^ lo % 2 ^ n
 abbrev pub kindOf : ℕ → ℕ
 kindOf w = w / 2 ^ 30
 
+-- the word stands behind the terms of a side: for side 2 it is a mark
+abbrev pub past : ℕ → ℕ → Bool
+past side w = ltb side (kindOf w)
+
 abbrev pub isMark : ℕ → Bool
-isMark w = eqb (kindOf w) 3
+isMark w = past 2 w
 
 -- bit 29: set in the mark of a fld row, and in a term of coefficient zero
 abbrev pub flagOf : ℕ → ℕ

@@ -49,7 +49,7 @@ fn after_word(low: u32, kind: u32, w: u32) -> Progress
     if !words::is_clean(w) {
         return Progress::Stop { number: 7 };
     }
-    if w >> 30 == 3 {
+    if 2 < w >> 30 {
         after_mark(low, w)
     } else {
         after_term(low, kind, w)

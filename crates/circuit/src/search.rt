@@ -54,7 +54,7 @@ fn next_mark(listing: &[u32], i: usize) -> usize
 {
     let mut k = i;
     while k < listing.len() {
-        if listing[k] >> 30 == 3 {
+        if 2 < listing[k] >> 30 {
             return k;
         }
         k = k + 1;

@@ -9,7 +9,7 @@ ghost use Rattle.circuit.specs.Words.{cleanOf, relationOf, coefficientOf
 pub fn is_clean(w: u32) -> bool
     ensures { λ r. ⌜ r ≡ cleanOf w ⌝ }
 {
-    if w >> 30 == 3 {
+    if 2 < w >> 30 {
         return (w >> 9) % 1048576 == 0;
     }
     if (w >> 29) % 2 == 0 {
@@ -42,7 +42,7 @@ fn coefficient_of(w: u32) -> Coefficient
 pub fn read_word(w: u32) -> Word
     ensures { λ r. ⌜ r ≡ wordOf w ⌝ }
 {
-    if w >> 30 == 3 {
+    if 2 < w >> 30 {
         Word::Mark {
             relation: relation_of(w),
             row: (w % 512) as usize,

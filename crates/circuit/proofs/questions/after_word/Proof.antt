@@ -2,7 +2,7 @@
 -- Assumes nothing.
 use mathlib.Core.Path.{sym, _∙_}
 use borrow.Author.Needs.{needs}
-use borrow.Author.Tests.{eq-eqb, ne-eqb, not-true, not-false}
+use borrow.Author.Tests.{lt-ltb, le-ltb, not-true, not-false}
 use Rattle.layout.specs.Questions.{passed, refused}
 use Rattle.circuit.specs.Valid.{afterWord}
 use Rattle.circuit.proofs.questions.after_word.Statement.{statement}
@@ -24,13 +24,13 @@ after-term-requires c κs = search needs
 returns-2 : tie.Need-returns-2
 unfolding afterWord
 returns-2 c =
-    c .after-mark .ensures ∙ passed _ _ _ (eq-eqb _ _ (c .before .if2 .taken))
+    c .after-mark .ensures ∙ passed _ _ _ (lt-ltb _ _ (c .before .if2 .taken))
     ∙ passed _ _ _ (sym (c .before .before .before .is-clean .ensures) ∙ not-false _ (c .before .before .if1 .left))
 
 returns-3 : tie.Need-returns-3
 unfolding afterWord
 returns-3 c =
-    c .after-term .ensures ∙ refused _ _ _ (ne-eqb _ _ (c .before .if2 .left))
+    c .after-term .ensures ∙ refused _ _ _ (le-ltb _ _ (c .before .if2 .left))
     ∙ passed _ _ _ (sym (c .before .before .before .is-clean .ensures) ∙ not-false _ (c .before .before .if1 .left))
 
 pub after-word-spec : {M : Type 1} → statement M

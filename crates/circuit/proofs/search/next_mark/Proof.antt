@@ -4,7 +4,7 @@ use mathlib.Core.Path.{_≡_, refl, sym, _∙_}
 use Prim.Native.Nat.{_+_, _≤_, _-_}
 use native.Mathlib.Omega.{arith}
 use borrow.Author.Needs.{needs}
-use borrow.Author.Tests.{eq-eqb, ne-eqb}
+use borrow.Author.Tests.{lt-ltb, le-ltb}
 use lib.ListN.{length, drop}
 use Rattle.circuit.specs.Words.{isMark}
 use Rattle.circuit.specs.Found.{until}
@@ -30,7 +30,7 @@ shared-slice-read-if1 c = search needs
 returns : tie.Need-returns Inv-loop μ-loop
 returns c =
     let t = c .before .before .before .loop in
-    sym (stops isMark _ (t .k) (c .before .before .loop-test .taken) (eq-eqb _ _ (c .if1 .taken))) ∙ t .inv .1
+    sym (stops isMark _ (t .k) (c .before .before .loop-test .taken) (lt-ltb _ _ (c .if1 .taken))) ∙ t .inv .1
 
 add-k : tie.Need-add-k Inv-loop μ-loop
 add-k c = search needs
@@ -41,7 +41,7 @@ loop-less c = search needs
 loop-again : tie.Need-loop-again Inv-loop μ-loop
 loop-again c =
     let t = c .before .before .before .loop in
-    (omega arith, sym (goes isMark _ (t .k) (c .before .before .loop-test .taken) (ne-eqb _ _ (c .if1 .left))) ∙ t .inv .1)
+    (omega arith, sym (goes isMark _ (t .k) (c .before .before .loop-test .taken) (le-ltb _ _ (c .if1 .left))) ∙ t .inv .1)
 
 returns-2 : tie.Need-returns-2 Inv-loop μ-loop
 returns-2 c = let t = c .before .loop in sym (ends isMark _ (t .k) (c .loop-test .left)) ∙ t .inv .1

@@ -2,7 +2,7 @@
 -- Assumes nothing.
 use mathlib.Core.Path.{ap, ap₂, _∙_}
 use borrow.Author.Needs.{needs}
-use borrow.Author.Tests.{eq-eqb, ne-eqb}
+use borrow.Author.Tests.{lt-ltb, le-ltb}
 use Rattle.layout.specs.Questions.{passed, refused}
 use Rattle.circuit.specs.Words.{wordOf}
 use Rattle.circuit.proofs.words.read_word.Statement.{statement}
@@ -22,11 +22,11 @@ cast-t11 c = search needs
 
 returns : tie.Need-returns
 unfolding wordOf
-returns c = simp (c .relation-of .ensures, eq-eqb _ _ (c .before .if1 .taken))
+returns c = simp (c .relation-of .ensures, lt-ltb _ _ (c .before .if1 .taken))
 
 returns-2 : tie.Need-returns-2
 unfolding wordOf
-returns-2 c = simp (c .coefficient-of .ensures, ne-eqb _ _ (c .before .if1 .left))
+returns-2 c = simp (c .coefficient-of .ensures, le-ltb _ _ (c .before .if1 .left))
 
 pub read-word-spec : {M : Type 1} → statement M
 read-word-spec =
