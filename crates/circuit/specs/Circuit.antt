@@ -6,7 +6,7 @@ use Rattle.circuit.specs.declared.Coefficient.{Coefficient}
 use Rattle.circuit.specs.declared.Coefficient.the-variants.{Zero, Power}
 use Rattle.circuit.specs.declared.Relation.the-variants.{Bin, Fld}
 use Rattle.circuit.specs.Rows.{Term, Sides, Row, from, fromEach, joined, numbered, encode}
-use Rattle.layout.specs.Columns.{ONE-COL, RS1, RS2, RD, LOAD-VAL, SHIFT-OUT, T1, T2, CARRY-OFF, ALU, SHIFT-SRC, STORE-OLD, STORE-SRC, SUB, WE, IS-LOAD, IS-STORE, IS-ARITH, HALT, IS-SHIFT, LD-BYTE, LD-HALF, LD-WORD, TAKEN, OFF, RAM-ADDR, BUS-OP, BUS-FUNCT3, EQA, PA, EQB, PB, CA, CH, CH2, NH, WNL, ZERO, OPSYS, OPBR, EQFM, EQF, LTSA, LTSB, LTUA, LTUB, CEQ, CLT, CLU, ZE16, ZE8}
+use Rattle.layout.specs.Columns.{ONE-COL, RS1, RS2, RD, LOAD-VAL, SHIFT-OUT, T1, T2, CARRY-OFF, ALU, SHIFT-SRC, STORE-OLD, STORE-SRC, SUB, WE, IS-LOAD, IS-STORE, IS-ARITH, HALT, IS-SHIFT, LD-BYTE, LD-HALF, LD-WORD, TAKEN, OFF, RAM-ADDR, FETCH-OP, FETCH-FUNCT3, EQA, PA, EQB, PB, CA, CH, CH2, NH, WNL, ZERO, OPSYS, OPBR, EQFM, EQF, LTSA, LTSB, LTUA, LTUB, CEQ, CLT, CLU, ZE16, ZE8}
 
 -- 2^k times a column
 abbrev pub power : ℕ → ℕ → Term
@@ -109,7 +109,7 @@ zeroRows = chainStart ZERO (is ALU 0) ∷ from 1 63 (λ i. chainNext ZERO i (is 
 
 -- the chain at x says whether the opcode is op
 abbrev pub opcodeRows : ℕ → ℕ → List Sides
-opcodeRows x op = chainStart x (isOf BUS-OP (bitOf op 0)) ∷ from 1 6 (λ i. chainNext x i (isOf (BUS-OP + i) (bitOf op i)))
+opcodeRows x op = chainStart x (isOf FETCH-OP (bitOf op 0)) ∷ from 1 6 (λ i. chainNext x i (isOf (FETCH-OP + i) (bitOf op i)))
 
 -- halt is 1 exactly where the chain at OPSYS ends in 1
 abbrev pub haltRows : List Sides
@@ -120,8 +120,8 @@ haltRows =
 
 abbrev pub funct3Rows : ℕ → List Sides
 funct3Rows f =
-    row (isOf BUS-FUNCT3 (bitOf f 0)) (isOf (BUS-FUNCT3 + 1) (bitOf f 1)) (col (EQFM + f) ∷ [])
-    ∷ row (col (EQFM + f) ∷ []) (isOf (BUS-FUNCT3 + 2) (bitOf f 2)) (col (EQF + f) ∷ [])
+    row (isOf FETCH-FUNCT3 (bitOf f 0)) (isOf (FETCH-FUNCT3 + 1) (bitOf f 1)) (col (EQFM + f) ∷ [])
+    ∷ row (col (EQFM + f) ∷ []) (isOf (FETCH-FUNCT3 + 2) (bitOf f 2)) (col (EQF + f) ∷ [])
     ∷ []
 
 -- signed less by signs and ALU; the adder's carry out, whose complement is unsigned less

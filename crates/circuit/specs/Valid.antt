@@ -45,4 +45,4 @@ validFrom i low kind (w ∷ ws) = onward (afterWord low kind w) i (λ l k. valid
 
 -- 6: at most 16,384 words
 unfoldable pub validated : List ℕ → Asked
-validated ws = cond (ltb 16384 (length ws)) (No (no 6 0)) (validFrom 0 0 0 ws)
+validated ws = cond (leb (length ws) 16384) (validFrom 0 0 0 ws) (No (no 6 0))

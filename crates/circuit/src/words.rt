@@ -18,7 +18,7 @@ pub fn is_clean(w: u32) -> bool
     (w >> 12) % 131072 == 0
 }
 
-fn relation_of(w: u32) -> Relation
+pub fn relation_of(w: u32) -> Relation
     ensures { λ r. ⌜ r ≡ relationOf w ⌝ }
 {
     if (w >> 29) % 2 == 0 {
@@ -28,7 +28,7 @@ fn relation_of(w: u32) -> Relation
     }
 }
 
-fn coefficient_of(w: u32) -> Coefficient
+pub fn coefficient_of(w: u32) -> Coefficient
     ensures { λ r. ⌜ r ≡ coefficientOf w ⌝ }
 {
     if (w >> 29) % 2 == 0 {

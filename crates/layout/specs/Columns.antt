@@ -1,5 +1,5 @@
--- The columns of one cycle, by the names of `WITNESS_LAYOUT`; a word's or field's column is that of its bit 0. The same names are
--- constants in src/columns.rt, and `witness_layout` ties the two. Assumes nothing.
+-- The columns of one cycle, as `WITNESS_LAYOUT` places them; a word's or field's column is that of its bit 0. The same names are constants
+-- in src/columns.rt, which says where they differ from the original's, and `witness_layout` ties the two. Assumes nothing.
 use mathlib.Core.List.{List, [], _∷_}
 use Prim.Native.Nat.{ℕ, _+_, _-_, _/_}
 
@@ -146,28 +146,28 @@ TAKEN = FLAGS + 11
 -- ---- fields of the instruction bus: the column of each one's bit 0
 
 -- opcode, 7 bits
-abbrev pub BUS-OP : ℕ
-BUS-OP = FETCH
+abbrev pub FETCH-OP : ℕ
+FETCH-OP = FETCH
 
 -- index of rd, 6 bits
-abbrev pub BUS-RD : ℕ
-BUS-RD = FETCH + 7
+abbrev pub FETCH-RD : ℕ
+FETCH-RD = FETCH + 7
 
 -- index of rs1, 6 bits
-abbrev pub BUS-RS1 : ℕ
-BUS-RS1 = FETCH + 13
+abbrev pub FETCH-RS1 : ℕ
+FETCH-RS1 = FETCH + 13
 
 -- index of rs2, 6 bits
-abbrev pub BUS-RS2 : ℕ
-BUS-RS2 = FETCH + 19
+abbrev pub FETCH-RS2 : ℕ
+FETCH-RS2 = FETCH + 19
 
 -- funct3, 3 bits
-abbrev pub BUS-FUNCT3 : ℕ
-BUS-FUNCT3 = FETCH + 25
+abbrev pub FETCH-FUNCT3 : ℕ
+FETCH-FUNCT3 = FETCH + 25
 
 -- immediate, 13 bits
-abbrev pub BUS-IMM : ℕ
-BUS-IMM = FETCH + 28
+abbrev pub FETCH-IMM : ℕ
+FETCH-IMM = FETCH + 28
 
 -- ---- the derived columns of byte lanes, 8 a name, one a lane, and two gates; src/columns.rt says what the rows make of each
 
@@ -252,7 +252,7 @@ witnessLayout =
     ∷ RS1 ∷ RS2 ∷ RD ∷ LOAD-VAL ∷ SHIFT-OUT ∷ T1 ∷ T2 ∷ CARRY-OFF ∷ ALU ∷ SHIFT-SRC ∷ STORE-OLD ∷ STORE-SRC
     ∷ FLAGS ∷ OFF ∷ RAM-ADDR ∷ PC ∷ FETCH
     ∷ SUB ∷ WE ∷ IS-LOAD ∷ IS-STORE ∷ IS-ARITH ∷ HALT ∷ IS-SHIFT ∷ IS-LOGIC ∷ LD-BYTE ∷ LD-HALF ∷ LD-WORD ∷ TAKEN
-    ∷ BUS-OP ∷ BUS-RD ∷ BUS-RS1 ∷ BUS-RS2 ∷ BUS-FUNCT3 ∷ BUS-IMM
+    ∷ FETCH-OP ∷ FETCH-RD ∷ FETCH-RS1 ∷ FETCH-RS2 ∷ FETCH-FUNCT3 ∷ FETCH-IMM
     ∷ EQA ∷ PA ∷ EQB ∷ PB ∷ CA ∷ CH ∷ CH2 ∷ NH ∷ WNL
     ∷ ZERO ∷ OPSYS ∷ OPBR ∷ EQFM ∷ EQF ∷ LTSA ∷ LTSB ∷ LTUA ∷ LTUB ∷ CEQ ∷ CLT ∷ CLU ∷ ZE16 ∷ ZE8 ∷ USED
     ∷ []

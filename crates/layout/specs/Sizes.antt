@@ -11,6 +11,7 @@ use mathlib.Core.Logic.{⊎-elim}
 use borrow.Author.Tests.{eqb-true, eqb-false, ne-eqb}
 use lib.Dec.{eqb, lit≤}
 use Rattle.layout.specs.Batch.{sizes, among, allowed}
+use Rattle.layout.specs.Questions.{both}
 
 abbrev pub Each : (ℕ → Type 0) → List ℕ → Type 0
 Each P [] = Unit
@@ -57,15 +58,9 @@ upTo (suc n) = agrees (suc n) && upTo n
 up-to : (n k : ℕ) → upTo n ≡ true → k < n → agrees (suc k) ≡ true
 unfolding upTo
 up-to zero k e h = absurd (not-suc-le-zero h)
-up-to (suc n) k e h = ⊎-elim (λ q. ap (λ (m : ℕ). agrees (suc m)) q ∙ left (agrees (suc n)) (upTo n) e) (λ l. up-to n k (right (agrees (suc n)) (upTo n) e) l) (eq-or-lt-of-le (le-of-suc-le-suc h))
-  where
-    left : (a b : Bool) → (a && b) ≡ true → a ≡ true
-    left true b q = refl
-    left false b q = q
-
-    right : (a b : Bool) → (a && b) ≡ true → b ≡ true
-    right true b q = q
-    right false b q = absurd (false≢true q)
+up-to (suc n) k e h =
+    let b = both (agrees (suc n)) (upTo n) e in
+    ⊎-elim (λ q. ap (λ (m : ℕ). agrees (suc m)) q ∙ b .0) (up-to n k (b .1)) (eq-or-lt-of-le (le-of-suc-le-suc h))
 
 pub divides : (cpi : ℕ) → 0 < cpi → eqb (256 % cpi) 0 ≡ allowed cpi
 unfolding allowed agrees upTo

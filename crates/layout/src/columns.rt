@@ -1,5 +1,6 @@
-// The columns of one cycle, as `WITNESS_LAYOUT` names and places them. `witness_layout` hands all of them out, proved equal to the
-// names that specs use (specs/Columns.antt), so code and contracts cannot drift apart.
+// The columns of one cycle, as `WITNESS_LAYOUT` places them, and by its names, but for flags and fields of the instruction bus: there it
+// names positions (F_SUB is 0, BUS_RD is 7), and here stands the column itself (SUB, FETCH_RD). `witness_layout` hands all of them out,
+// proved equal to the names that specs use (specs/Columns.antt), so code and contracts cannot drift apart.
 ghost use mathlib.Core.Path.{_≡_};
 ghost use Rattle.layout.specs.Columns.{witnessLayout};
 
@@ -74,17 +75,17 @@ pub const LD_WORD: usize = FLAGS + 10; // load of all 64 bits
 pub const TAKEN: usize = FLAGS + 11; // the branch is taken: derived
 
 // Fields of the instruction bus: the column of each one's bit 0.
-pub const BUS_OP: usize = FETCH; // opcode, 7 bits
+pub const FETCH_OP: usize = FETCH; // opcode, 7 bits
 
-pub const BUS_RD: usize = FETCH + 7; // index of rd, 6 bits
+pub const FETCH_RD: usize = FETCH + 7; // index of rd, 6 bits
 
-pub const BUS_RS1: usize = FETCH + 13; // index of rs1, 6 bits
+pub const FETCH_RS1: usize = FETCH + 13; // index of rs1, 6 bits
 
-pub const BUS_RS2: usize = FETCH + 19; // index of rs2, 6 bits
+pub const FETCH_RS2: usize = FETCH + 19; // index of rs2, 6 bits
 
-pub const BUS_FUNCT3: usize = FETCH + 25; // funct3, 3 bits
+pub const FETCH_FUNCT3: usize = FETCH + 25; // funct3, 3 bits
 
-pub const BUS_IMM: usize = FETCH + 28; // immediate, 13 bits
+pub const FETCH_IMM: usize = FETCH + 28; // immediate, 13 bits
 
 // Byte lanes, 8 columns each, one a lane a; then two gates.
 pub const EQA: usize = 896; // OFF is a
@@ -174,12 +175,12 @@ pub fn witness_layout() -> [usize; 63]
         LD_HALF,
         LD_WORD,
         TAKEN,
-        BUS_OP,
-        BUS_RD,
-        BUS_RS1,
-        BUS_RS2,
-        BUS_FUNCT3,
-        BUS_IMM,
+        FETCH_OP,
+        FETCH_RD,
+        FETCH_RS1,
+        FETCH_RS2,
+        FETCH_FUNCT3,
+        FETCH_IMM,
         EQA,
         PA,
         EQB,

@@ -6,7 +6,7 @@ use Prim.Native.Nat.{ℕ, _+_, _≤_, _<_, _-_}
 use native.Mathlib.Numerals.{add-one}
 use native.Mathlib.Omega.{arith}
 use borrow.Author.Needs.{needs}
-use borrow.Author.Tests.{lt-ltb, le-ltb}
+use borrow.Author.Tests.{le-leb, lt-leb}
 use lib.ListN.{length, getD, drop, drop-of-length-le}
 use lib.Seq.{drop-cons}
 use Rattle.layout.specs.Questions.{passed, refused}
@@ -24,7 +24,7 @@ turn ws i low kind s h e = rw (e, add-one, drop-cons ws i 0)
 
 fits : (ws : List ℕ) → length ws ≤ 16384 → validFrom 0 0 0 ws ≡ validated ws
 unfolding validated
-fits ws h = refused _ _ _ (le-ltb _ _ h)
+fits ws h = passed _ _ _ (le-leb _ _ h)
 
 abbrev Inv-loop : tie.InvT-loop
 Inv-loop listing low₀ kind₀ i₀ low kind i = (i ≤ length listing) × (validFrom i low kind (drop i listing) ≡ validFrom 0 0 0 listing)
@@ -34,7 +34,7 @@ abbrev μ-loop : tie.MeasureT-loop
 
 returns : tie.Need-returns Inv-loop μ-loop
 unfolding validated
-returns c = passed _ _ _ (lt-ltb _ _ (c .if1 .taken))
+returns c = refused _ _ _ (lt-leb _ _ (c .if1 .taken))
 
 loop-holds : tie.Need-loop-holds Inv-loop μ-loop
 loop-holds c = (omega arith, refl)

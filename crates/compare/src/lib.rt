@@ -1,0 +1,177 @@
+// What the comparison with the original calls from Rust: the product's own functions behind C names, on numbers alone. Not part of
+// the product's C boundary.
+ghost use mathlib.Core.Path.{_≡_};
+ghost use Prim.Native.Nat.{_<_, _^_};
+ghost use Rattle.field.specs.Gf.{ofWords, added, product, shifted, power};
+ghost use Rattle.layout.specs.Batch.{geometryOf, mapped, unmapped};
+ghost use Rattle.circuit.specs.Circuit.{circuitWords};
+ghost use Rattle.circuit.specs.Batched.{batched};
+ghost use lib.ListN.{getD};
+ghost use Rattle.compare.specs.Numbers.{wordOf, refusalNumber, geometryPart, geometryNumber, columnNumber, cycleColumnNumber, coefficientNumber, markNumber, batchNumber};
+use circuit::Coefficient;
+use circuit::Relation;
+use circuit::batch::BatchWord;
+use field::Gf128;
+use layout::ColumnAnswer;
+use layout::CycleColumnAnswer;
+use layout::GeometryAnswer;
+use layout::InstanceGeometry;
+use layout::Refusal;
+
+fn word_of(e: Gf128, word: u32) -> u64
+    ensures { λ r. ⌜ r ≡ wordOf word e ⌝ }
+{
+    if word == 0 { e.low() } else { e.high() }
+}
+
+#[no_mangle]
+pub extern "C" fn compare_add(alo: u64, ahi: u64, blo: u64, bhi: u64, word: u32) -> u64
+    ensures { λ r. ⌜ r ≡ wordOf word (added (ofWords alo ahi) (ofWords blo bhi)) ⌝ }
+{
+    word_of(
+        Gf128::of_words(alo, ahi).add(Gf128::of_words(blo, bhi)),
+        word,
+    )
+}
+
+#[no_mangle]
+pub extern "C" fn compare_mul(alo: u64, ahi: u64, blo: u64, bhi: u64, word: u32) -> u64
+    ensures { λ r. ⌜ r ≡ wordOf word (product (ofWords alo ahi) (ofWords blo bhi)) ⌝ }
+{
+    word_of(
+        Gf128::of_words(alo, ahi).mul(Gf128::of_words(blo, bhi)),
+        word,
+    )
+}
+
+#[no_mangle]
+pub extern "C" fn compare_shl(lo: u64, hi: u64, k: u32, word: u32) -> u64
+    ensures { λ r. ⌜ r ≡ wordOf word (shifted (ofWords lo hi) k) ⌝ }
+{
+    word_of(Gf128::of_words(lo, hi).shl(k), word)
+}
+
+#[no_mangle]
+pub extern "C" fn compare_times_power(lo: u64, hi: u64, k: u32, word: u32) -> u64
+    ensures { λ r. ⌜ r ≡ wordOf word (product (ofWords lo hi) (power k)) ⌝ }
+{
+    word_of(Gf128::of_words(lo, hi).times_power(k), word)
+}
+
+fn refusal_number(r: Refusal) -> u64
+    ensures { λ n. ⌜ n ≡ refusalNumber r ⌝ }
+{
+    0x8000000000000000 + r.number as u64
+}
+
+fn geometry_part(g: InstanceGeometry, part: u32) -> u64
+    ensures { λ r. ⌜ r ≡ geometryPart part g ⌝ }
+{
+    match part {
+        0 => g.cpi as u64,
+        1 => g.w_cols as u64,
+        2 => g.m as u64,
+        3 => g.one_col as u64,
+        _ => g.w128 as u64,
+    }
+}
+
+#[no_mangle]
+pub extern "C" fn compare_geometry(cpi: usize, part: u32) -> u64
+    ensures { λ r. ⌜ r ≡ geometryNumber part (geometryOf cpi) ⌝ }
+{
+    let answer = layout::geometry(cpi);
+    match answer {
+        GeometryAnswer::Of(g) => geometry_part(g, part),
+        GeometryAnswer::Refused(r) => refusal_number(r),
+    }
+}
+
+fn column_number(answer: ColumnAnswer) -> u64
+    ensures { λ n. ⌜ n ≡ columnNumber answer ⌝ }
+{
+    match answer {
+        ColumnAnswer::At(c) => c as u64,
+        ColumnAnswer::Refused(r) => refusal_number(r),
+    }
+}
+
+#[no_mangle]
+pub extern "C" fn compare_map_col(cpi: usize, column: usize, cycle: usize) -> u64
+    ensures { λ r. ⌜ r ≡ columnNumber (mapped 2048 cpi column cycle) ⌝ }
+{
+    column_number(layout::map_col(cpi, column, cycle))
+}
+
+#[no_mangle]
+pub extern "C" fn compare_map_z_col(cpi: usize, column: usize, cycle: usize) -> u64
+    ensures { λ r. ⌜ r ≡ columnNumber (mapped 4096 cpi column cycle) ⌝ }
+{
+    column_number(layout::map_z_col(cpi, column, cycle))
+}
+
+#[no_mangle]
+pub extern "C" fn compare_way_back(cpi: usize, column: usize, part: u32) -> u64
+    ensures { λ r. ⌜ r ≡ cycleColumnNumber part (unmapped cpi column) ⌝ }
+{
+    let answer = layout::unmap_col(cpi, column);
+    match answer {
+        CycleColumnAnswer::At { column: c, cycle } => {
+            if part == 0 { c as u64 } else { cycle as u64 }
+        }
+        CycleColumnAnswer::Refused(r) => refusal_number(r),
+    }
+}
+
+#[no_mangle]
+pub extern "C" fn compare_listing_word(i: usize) -> u32
+    ensures { λ r. ⌜ r ≡ getD circuitWords i 0 ⌝ }
+{
+    let words = circuit::build_circuit();
+    if i < 3499 { words[i] } else { 0 }
+}
+
+// 2^k is its exponent, zero is 255.
+fn coefficient_number(k: Coefficient) -> u64
+    ensures { λ n. ⌜ n ≡ coefficientNumber k ⌝ }
+{
+    match k {
+        Coefficient::Zero => 255,
+        Coefficient::Power(e) => e as u64,
+    }
+}
+
+fn mark_number(relation: Relation) -> u64
+    ensures { λ n. ⌜ n ≡ markNumber relation ⌝ }
+{
+    match relation {
+        Relation::Bin => 3,
+        Relation::Fld => 4,
+    }
+}
+
+fn batch_number(w: BatchWord) -> u64
+    requires { ⌜ batchNumber w < 2 ^ 64 ⌝ }
+    ensures { λ n. ⌜ n ≡ batchNumber w ⌝ }
+{
+    match w {
+        BatchWord::Row { relation, row } => row as u64 + mark_number(relation) * 0x10000000000,
+        BatchWord::Term {
+            side,
+            coefficient,
+            column,
+        } => {
+            column as u64
+                + coefficient_number(coefficient) * 0x100000000
+                + side as u64 * 0x10000000000
+        }
+        BatchWord::Refused(r) => refusal_number(r),
+    }
+}
+
+#[no_mangle]
+pub extern "C" fn compare_batched(cpi: usize, cycle: usize, word: u32) -> u64
+    ensures { λ r. ⌜ r ≡ batchNumber (batched cpi cycle word) ⌝ }
+{
+    batch_number(circuit::batch::build_circuit_batched(cpi, cycle, word))
+}

@@ -1,0 +1,195 @@
+-- `verdict::walk::walk_parts` meets its contract: at each loop the verdict on what is left, with the count so far, is the whole verdict.
+-- Assumes nothing.
+use mathlib.Core.Path.{_≡_, refl, sym, ap, subst, _∙_}
+use mathlib.Core.Bool.{true}
+use mathlib.Core.List.{List}
+use Prim.Native.Nat.{ℕ, _+_, _-_, _*_, _≤_, _<_}
+use native.Mathlib.Omega.{arith}
+use native.Mathlib.Numerals.{add-one}
+use borrow.Author.Needs.{needs}
+use borrow.Author.Tests.{not-true, not-false}
+use lib.ListN.{length, getD, drop}
+use lib.Seq.{drop-cons}
+use Rattle.circuit.specs.Words.{isMark}
+use Rattle.circuit.specs.Batched.{batchRow}
+use Rattle.verdict.specs.Row.{cycleOf}
+use Rattle.verdict.specs.Runs.{sorted, mark-first}
+use Rattle.verdict.specs.Check.{run}
+use Rattle.verdict.specs.Left.{of-parts, allParts, leftCycles, leftRows, relation-step, relation-end, cycle-step, cycle-end, row-end, row-here, along, run-on, run-stop}
+use Rattle.verdict.proofs.walk.walk_parts.Statement.{statement}
+use Rattle.verdict.proofs.walk.walk_parts.Tie as tie
+
+-- where words that are rows have one at an index, it is a mark, and sorted terms stand behind it
+at-mark : (part : List ℕ) (at : ℕ) → at < length part → sorted 3 (drop at part) ≡ true
+    → (isMark (getD part at 0) ≡ true) × (sorted 0 (drop (at + 1) part) ≡ true)
+at-mark part at h s =
+    subst (λ n. (isMark (getD part at 0) ≡ true) × (sorted 0 (drop n part) ≡ true)) (sym (add-one at))
+    (mark-first (getD part at 0) _ (ap (sorted 3) (sym (drop-cons part at 0 h)) ∙ s))
+
+abbrev Inv-rows : tie.InvT-rows
+Inv-rows cpi bin fld batch tested₀ relation cycle part at₀ tested at =
+    (at ≤ length part) × (length part ≤ 16384) × (tested ≤ relation * 4194304 + cycle * 16384 + at) × (sorted 3 (drop at part) ≡ true)
+    × (run (cycleOf cpi batch) tested (leftRows cpi bin fld part relation cycle at) ≡ run (cycleOf cpi batch) 0 (allParts cpi bin fld 0))
+
+abbrev μ-rows : tie.MeasureT-rows
+μ-rows cpi bin fld batch tested₀ relation cycle part at₀ tested at = length part - at
+
+abbrev Inv-cycles : tie.InvT-cycles
+Inv-cycles cpi bin fld batch tested₀ relation cycle₀ tested cycle =
+    (cycle ≤ cpi) × (tested ≤ relation * 4194304 + cycle * 16384)
+    × (run (cycleOf cpi batch) tested (leftCycles cpi bin fld relation cycle) ≡ run (cycleOf cpi batch) 0 (allParts cpi bin fld 0))
+
+abbrev μ-cycles : tie.MeasureT-cycles
+μ-cycles cpi bin fld batch tested₀ relation cycle₀ tested cycle = cpi - cycle
+
+abbrev Inv-relations : tie.InvT-relations
+Inv-relations cpi bin fld batch tested₀ relation₀ tested relation =
+    (relation ≤ 2) × (tested ≤ relation * 4194304)
+    × (run (cycleOf cpi batch) tested (allParts cpi bin fld relation) ≡ run (cycleOf cpi batch) 0 (allParts cpi bin fld 0))
+
+abbrev μ-relations : tie.MeasureT-relations
+μ-relations cpi bin fld batch tested₀ relation₀ tested relation = 2 - relation
+
+relations-holds :
+    tie.Need-relations-holds Inv-rows μ-rows Inv-cycles μ-cycles Inv-relations μ-relations
+relations-holds c = (search needs, search needs, refl)
+
+cycles-holds :
+    tie.Need-cycles-holds Inv-rows μ-rows Inv-cycles μ-cycles Inv-relations μ-relations
+cycles-holds c = (search needs, search needs, along _ _ (relation-step _ _ _ _ (omega arith)) (c .before .relations .inv .2))
+
+part-at-requires :
+    tie.Need-part-at-requires Inv-rows μ-rows Inv-cycles μ-cycles Inv-relations μ-relations
+part-at-requires c κs = search needs
+
+rows-holds :
+    tie.Need-rows-holds Inv-rows μ-rows Inv-cycles μ-cycles Inv-relations μ-relations
+rows-holds c =
+    let e = c .part-at .ensures in let p = c .before .before .before .before .before .before .before .before .pre in
+    let r = c .before .before .before .before .relations .relation in (
+      search needs,
+      subst (λ part. length part ≤ 16384) (sym e) (of-parts (λ part. length part ≤ 16384) _ _ (p .1 .1 .0) (p .1 .1 .1 .0) r),
+      search needs,
+      subst (λ part. sorted 3 part ≡ true) (sym e) (of-parts (λ part. sorted 3 part ≡ true) _ _ (p .1 .1 .1 .1 .0) (p .1 .1 .1 .1 .1) r),
+      along _ _ (cycle-step _ _ _ _ _ (c .before .cycles-test .taken) _ e) (c .before .before .cycles .inv .2),
+    )
+
+mul-mark :
+    tie.Need-mul-mark Inv-rows μ-rows Inv-cycles μ-cycles Inv-relations μ-relations
+mul-mark c = search needs
+
+shared-slice-read-mark :
+    tie.Need-shared-slice-read-mark Inv-rows μ-rows Inv-cycles μ-cycles Inv-relations μ-relations
+shared-slice-read-mark c = search needs
+
+add-test-row :
+    tie.Need-add-test-row Inv-rows μ-rows Inv-cycles μ-cycles Inv-relations μ-relations
+add-test-row c = search needs
+
+test-row-requires :
+    tie.Need-test-row-requires Inv-rows μ-rows Inv-cycles μ-cycles Inv-relations μ-relations
+test-row-requires c κs =
+    let t = c .before .before .rows in
+    (search needs, (search needs, at-mark _ (t .at) (c .before .rows-test .taken) (t .inv .3) .1))
+
+add-tested :
+    tie.Need-add-tested Inv-rows μ-rows Inv-cycles μ-cycles Inv-relations μ-relations
+add-tested c = search needs
+
+relation-of-requires :
+    tie.Need-relation-of-requires Inv-rows μ-rows Inv-cycles μ-cycles Inv-relations μ-relations
+relation-of-requires c κs = search needs
+
+cast-batch-row :
+    tie.Need-cast-batch-row Inv-rows μ-rows Inv-cycles μ-cycles Inv-relations μ-relations
+cast-batch-row c = search needs
+
+batch-row-requires :
+    tie.Need-batch-row-requires Inv-rows μ-rows Inv-cycles μ-cycles Inv-relations μ-relations
+batch-row-requires c κs = search needs
+
+rows-less :
+    tie.Need-rows-less Inv-rows μ-rows Inv-cycles μ-cycles Inv-relations μ-relations
+rows-less c = search needs
+
+rows-again :
+    tie.Need-rows-again Inv-rows μ-rows Inv-cycles μ-cycles Inv-relations μ-relations
+rows-again c =
+    let r = c .before .before .test-row in let b = c .before .before .before .before in let t = b .before .rows in
+    let m = at-mark _ (t .at) (b .rows-test .taken) (t .inv .3) in (
+      r .ensures .ends .fits,
+      t .inv .1,
+      omega (arith, r .ensures .ends .onward),
+      r .ensures .ends .in-rows,
+      run-on _ _ (row-here _ _ _ _ _ _ (t .at) _ (b .rows-test .taken) (m .0) (r .ensures .ends)) (t .inv .4)
+          (sym (r .ensures .holds-is) ∙ not-false _ (c .if2 .left)),
+    )
+
+add-cycle :
+    tie.Need-add-cycle Inv-rows μ-rows Inv-cycles μ-cycles Inv-relations μ-relations
+add-cycle c = search needs
+
+cycles-less :
+    tie.Need-cycles-less Inv-rows μ-rows Inv-cycles μ-cycles Inv-relations μ-relations
+cycles-less c = search needs
+
+cycles-again :
+    tie.Need-cycles-again Inv-rows μ-rows Inv-cycles μ-cycles Inv-relations μ-relations
+cycles-again c = (search needs, omega arith, along _ _ (row-end _ _ _ _ _ _ _ (c .rows-test .left)) (c .before .rows .inv .4))
+
+add-relation :
+    tie.Need-add-relation Inv-rows μ-rows Inv-cycles μ-cycles Inv-relations μ-relations
+add-relation c = search needs
+
+relations-less :
+    tie.Need-relations-less Inv-rows μ-rows Inv-cycles μ-cycles Inv-relations μ-relations
+relations-less c = search needs
+
+relations-again :
+    tie.Need-relations-again Inv-rows μ-rows Inv-cycles μ-cycles Inv-relations μ-relations
+relations-again c = (search needs, omega arith, along _ _ (cycle-end _ _ _ _ _ (c .cycles-test .left)) (c .before .cycles .inv .2))
+
+returns : tie.Need-returns Inv-rows μ-rows Inv-cycles μ-cycles Inv-relations μ-relations
+unfolding run
+returns c = along _ _ (relation-end _ _ _ _ (c .if1 .taken)) (c .before .relations .inv .2)
+
+returns-2 : tie.Need-returns-2 Inv-rows μ-rows Inv-cycles μ-cycles Inv-relations μ-relations
+returns-2 c =
+    let i = c .before .before in let r = i .before .before .test-row in let b = i .before .before .before .before in let t = b .before .rows in
+    let m = at-mark _ (t .at) (b .rows-test .taken) (t .inv .3) in
+    rw (c .batch-row .ensures, c .before .relation-of .ensures)
+    (run-stop _ _ (row-here _ _ _ _ _ _ (t .at) _ (b .rows-test .taken) (m .0) (r .ensures .ends)) (t .inv .4)
+    (sym (r .ensures .holds-is) ∙ not-true _ (i .if2 .taken)))
+
+pub walk-parts-spec : {M : Type 1} → statement M
+walk-parts-spec =
+    tie.close
+    (tie.spec
+    Inv-rows
+    μ-rows
+    Inv-cycles
+    μ-cycles
+    Inv-relations
+    μ-relations
+    relations-holds
+    cycles-holds
+    part-at-requires
+    rows-holds
+    mul-mark
+    shared-slice-read-mark
+    add-test-row
+    test-row-requires
+    add-tested
+    relation-of-requires
+    cast-batch-row
+    batch-row-requires
+    rows-less
+    rows-again
+    add-cycle
+    cycles-less
+    cycles-again
+    add-relation
+    relations-less
+    relations-again
+    returns
+    returns-2)

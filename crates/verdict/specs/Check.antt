@@ -1,0 +1,88 @@
+-- The check: the constraints of all cycles in their order, the first that does not hold, and how many were tested.
+-- Assumes nothing.
+use mathlib.Core.Bool.{Bool, true, false, cond}
+use mathlib.Core.List.{List, [], _∷_, _++_, map}
+use Prim.Native.Nat.{ℕ, _+_, _*_}
+use lib.Dec.{eqb}
+use lib.ListN.{length, replicate}
+use Rattle.field.specs.declared.Gf128.{Gf128}
+use Rattle.layout.specs.declared.Asked.{Asked}
+use Rattle.layout.specs.declared.Asked.the-variants.{Yes, No}
+use Rattle.layout.specs.Batch.{allowed}
+use Rattle.layout.specs.Questions.{no}
+use Rattle.circuit.specs.declared.Relation.{Relation}
+use Rattle.circuit.specs.declared.Relation.the-variants.{Bin, Fld}
+use Rattle.circuit.specs.Rows.{Row, fromEach}
+use Rattle.circuit.specs.Parse.{rowsOf}
+use Rattle.circuit.specs.Batched.{batchRow}
+use Rattle.circuit.specs.Valid.{validated}
+use Rattle.verdict.specs.declared.Verdict.{Verdict}
+use Rattle.verdict.specs.declared.Verdict.the-variants.{Accepted, Failed}
+use Rattle.verdict.specs.declared.CheckAnswer.{CheckAnswer}
+use Rattle.verdict.specs.declared.CheckAnswer.the-variants.{Judged, Refused}
+use Rattle.verdict.specs.Row.{cycleOf, holds}
+
+-- a row to be tested in a cycle: what document 01 calls a cycle-and-mark pair
+pub record Constraint : Type 0 where
+  pub cycle : ℕ
+  pub row : Row
+
+abbrev pub inCycle : ℕ → Row → Constraint
+inCycle d r = record { cycle = d; row = r }
+
+abbrev pub sameRelation : Relation → Relation → Bool
+sameRelation Bin Bin = true
+sameRelation Fld Fld = true
+sameRelation Bin Fld = false
+sameRelation Fld Bin = false
+
+-- the rows of one relation
+unfoldable pub ofRelation : Relation → List Row → List Row
+ofRelation rel [] = []
+ofRelation rel (r ∷ rs) = cond (sameRelation (r .relation) rel) (r ∷ ofRelation rel rs) (ofRelation rel rs)
+
+-- rows in each of n cycles from d on: by cycle, then row
+abbrev pub inCycles : ℕ → ℕ → List Row → List Constraint
+inCycles d n rs = fromEach d n (λ e. map (inCycle e) rs)
+
+-- all bin, then all fld
+unfoldable pub constraints : ℕ → List Row → List Constraint
+constraints cpi rs = inCycles 0 cpi (ofRelation Bin rs) ++ inCycles 0 cpi (ofRelation Fld rs)
+
+module _ (view : ℕ → ℕ → Gf128) where
+  abbrev pub met : Constraint → Bool
+  met k = holds (view (k .cycle)) (k .row .sides)
+
+  -- the verdict from here on, where n pairs were tested before: the first constraint that does not hold ends it
+  unfoldable pub run : ℕ → List Constraint → Verdict
+  run n [] = Accepted n
+  run n (k ∷ ks) =
+      cond (met k) (run (n + 1) ks)
+      (Failed (k .row .relation) (batchRow (k .row .relation) (k .cycle) (k .row .number)) (n + 1))
+
+-- the verdict on a batch, with no question asked
+unfoldable pub judged : ℕ → List ℕ → List ℕ → Verdict
+judged cpi listing batch = run (cycleOf cpi batch) 0 (constraints cpi (rowsOf listing))
+
+-- questions 1, 2, 5, and those on the listing; of batch and scratch the number of words
+unfoldable pub asked : ℕ → List ℕ → ℕ → ℕ → Asked
+asked cpi listing words room =
+    cond (allowed cpi)
+    (cond (eqb words (8192 * cpi))
+    (cond (eqb room 3072) (validated listing)
+    (No (no 5 0)))
+    (No (no 2 0)))
+    (No (no 1 0))
+
+-- the answer and the scratch afterwards: a verdict leaves zeros, a refusal what was there
+pub record Checked : Type 0 where
+  pub answer : CheckAnswer
+  pub scratch : List ℕ
+
+abbrev pub after : Asked → Verdict → List ℕ → Checked
+after Yes v scratch = record { answer = Judged v; scratch = replicate (length scratch) 0 }
+after (No r) v scratch = record { answer = Refused r; scratch = scratch }
+
+unfoldable pub checked : ℕ → List ℕ → List ℕ → List ℕ → Checked
+checked cpi listing batch scratch =
+    after (asked cpi listing (length batch) (length scratch)) (judged cpi listing batch) scratch

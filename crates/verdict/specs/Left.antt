@@ -1,0 +1,109 @@
+-- What is left of the check at each of its loops. The verdict from there on, with the count so far, is the whole verdict.
+-- Assumes nothing.
+use mathlib.Core.Path.{_≡_, refl, sym, ap, _∙_}
+use mathlib.Core.Bool.{Bool, true, false, cond}
+use mathlib.Core.List.{List, [], _∷_, _++_, map, append-assoc, append-nil}
+use Prim.Native.Nat.{ℕ, zero, suc, _+_, _-_, _<_, _≤_, _%_, _^_}
+use native.Mathlib.Nat.{sub-zero}
+use native.Mathlib.Numerals.{add-one}
+use native.Mathlib.Omega.{arith}
+use lib.Dec.{eqb}
+use lib.ListN.{length, getD, drop, drop-of-length-le}
+use lib.Seq.{drop-cons}
+use Rattle.field.specs.declared.Gf128.{Gf128}
+use Rattle.layout.specs.Questions.{passed, refused}
+use Rattle.circuit.specs.Words.{isMark, relationOf}
+use Rattle.circuit.specs.Rows.{Row, fromEach}
+use Rattle.circuit.specs.Parse.{parse, rowsOf}
+use Rattle.circuit.specs.Batched.{batchRow}
+use Rattle.verdict.specs.declared.Verdict.{Verdict}
+use Rattle.verdict.specs.declared.Verdict.the-variants.{Failed}
+use Rattle.verdict.specs.Runs.{parse-mark}
+use Rattle.verdict.specs.Walks.{RowEnds}
+use Rattle.verdict.specs.Check.{Constraint, inCycle, inCycles, met, run}
+
+-- the words of the bin rows for relation 0, else those of the fld rows
+abbrev pub partAt : List ℕ → List ℕ → ℕ → List ℕ
+partAt bin fld relation = cond (eqb relation 0) bin fld
+
+-- what is so of both
+pub of-parts : (P : List ℕ → Type 0) (bin fld : List ℕ) → P bin → P fld → (r : ℕ) → P (partAt bin fld r)
+of-parts P bin fld p q r = by-test (eqb r 0)
+  where
+    by-test : (b : Bool) → P (cond b bin fld)
+    by-test true = p
+    by-test false = q
+
+-- the row whose mark stands at an index
+abbrev pub rowAt : List ℕ → ℕ → Row
+rowAt part at =
+    record { relation = relationOf (getD part at 0); number = getD part at 0 % 2 ^ 9; sides = parse (drop (at + 1) part) .before }
+
+-- ---- a list that is made piece by piece
+
+from-step : {A : Type 0} (f : ℕ → List A) (n i : ℕ) → i < n → fromEach i (n - i) f ≡ f i ++ fromEach (i + 1) (n - (i + 1)) f
+unfolding fromEach
+from-step f n i h = let e : n - i ≡ suc (n - (i + 1)) = omega arith in rw (e, add-one)
+
+from-end : {A : Type 0} (f : ℕ → List A) (n i : ℕ) → n ≤ i → fromEach i (n - i) f ≡ []
+unfolding fromEach
+from-end f n i h = let e : n - i ≡ 0 = omega arith in rw e
+
+module _ (cpi : ℕ) (bin fld : List ℕ) where
+  abbrev inPart : ℕ → List Constraint
+  inPart r = inCycles 0 cpi (rowsOf (partAt bin fld r))
+
+  -- left at the relation loop, at the cycle loop, and at the row loop
+  unfoldable pub allParts : ℕ → List Constraint
+  allParts r = fromEach r (2 - r) inPart
+
+  unfoldable pub leftCycles : ℕ → ℕ → List Constraint
+  leftCycles r d = inCycles d (cpi - d) (rowsOf (partAt bin fld r)) ++ allParts (r + 1)
+
+  unfoldable pub leftRows : List ℕ → ℕ → ℕ → ℕ → List Constraint
+  leftRows part r d at = map (inCycle d) (rowsOf (drop at part)) ++ leftCycles r (d + 1)
+
+  pub relation-step : (r : ℕ) → r < 2 → allParts r ≡ leftCycles r 0
+  unfolding allParts leftCycles
+  relation-step r h = rw (from-step inPart 2 r h, sub-zero)
+
+  pub relation-end : (r : ℕ) → r ≡ 2 → allParts r ≡ []
+  unfolding allParts
+  relation-end r e = from-end inPart 2 r (omega arith)
+
+  pub cycle-step : (r d : ℕ) → d < cpi → (part : List ℕ) → part ≡ partAt bin fld r → leftCycles r d ≡ leftRows part r d 0
+  unfolding leftCycles leftRows
+  cycle-step r d h part e = rw (from-step (λ e. map (inCycle e) (rowsOf (partAt bin fld r))) cpi d h, append-assoc, e)
+
+  pub cycle-end : (r d : ℕ) → cpi ≤ d → leftCycles r d ≡ allParts (r + 1)
+  unfolding leftCycles
+  cycle-end r d h = rw (from-end (λ e. map (inCycle e) (rowsOf (partAt bin fld r))) cpi d h)
+
+  pub row-end : (part : List ℕ) (r d at : ℕ) → length part ≤ at → leftRows part r d at ≡ leftCycles r (d + 1)
+  unfolding leftRows parse
+  row-end part r d at h = rw (drop-of-length-le part h)
+
+  -- the row whose mark stands at an index, with what is left behind it
+  pub row-here : (part : List ℕ) (r d at end : ℕ) → at < length part → isMark (getD part at 0) ≡ true → RowEnds part (at + 1) end
+      → leftRows part r d at ≡ inCycle d (rowAt part at) ∷ leftRows part r d end
+  unfolding leftRows
+  row-here part r d at end h m e =
+      ap (λ rs. map (inCycle d) rs ++ leftCycles r (d + 1))
+      (ap rowsOf (drop-cons part at 0 h) ∙ ap (λ n. rowsOf (getD part at 0 ∷ drop n part)) (sym (add-one at))
+      ∙ ap (λ p. p .rows) (parse-mark (getD part at 0) (drop (at + 1) part) m) ∙ ap (λ rs. rowAt part at ∷ rs) (sym (e .rows-left)))
+
+-- ---- the verdict from there on
+
+module _ (view : ℕ → ℕ → Gf128) (n : ℕ) where
+  -- carried along an equation of what is left
+  pub along : {ks ls : List Constraint} {v : Verdict} → ks ≡ ls → run view n ks ≡ v → run view n ls ≡ v
+  along e h = ap (run view n) (sym e) ∙ h
+
+  module _ {k : Constraint} {ks ls : List Constraint} {v : Verdict} (e : ks ≡ k ∷ ls) (h : run view n ks ≡ v) where
+    pub run-on : met view k ≡ true → run view (n + 1) ls ≡ v
+    unfolding run
+    run-on m = passed _ _ _ m ∙ along e h
+
+    pub run-stop : met view k ≡ false → Failed (k .row .relation) (batchRow (k .row .relation) (k .cycle) (k .row .number)) (n + 1) ≡ v
+    unfolding run
+    run-stop m = refused _ _ _ m ∙ along e h
