@@ -4,7 +4,7 @@ use mathlib.Core.Path.{_≡_, refl, sym, subst}
 use mathlib.Core.Bool.{Bool, true, false, cond}
 use mathlib.Core.List.{List, [], _∷_}
 use Prim.Native.Nat.{ℕ, suc, _+_, _<_, _≤_}
-use native.Mathlib.Nat.{add-zero}
+use native.Mathlib.Nat.{add-zero, not-suc-le-zero, le-of-suc-le-suc}
 use native.Mathlib.Numerals.{add-one}
 use native.Mathlib.Omega.{arith}
 use borrow.Author.Tests.{ltb-true}
@@ -45,6 +45,17 @@ until-le p (w ∷ ws) = by-test (p w) (until-le p ws)
     by-test : (b : Bool) → until p ws ≤ length ws → cond b 0 (suc (until p ws)) ≤ length (w ∷ ws)
     by-test true h = omega arith
     by-test false h = omega arith
+
+-- what the search stops at passes the test
+pub until-finds : (p : ℕ → Bool) (ws : List ℕ) → until p ws < length ws → p (getD ws (until p ws) 0) ≡ true
+unfolding until
+until-finds p [] h = absurd (not-suc-le-zero h)
+until-finds p (w ∷ ws) h = by-test (p w) refl (until-finds p ws) h
+  where
+    by-test : (b : Bool) → p w ≡ b → (until p ws < length ws → p (getD ws (until p ws) 0) ≡ true)
+        → cond b 0 (suc (until p ws)) < length (w ∷ ws) → p (getD (w ∷ ws) (cond b 0 (suc (until p ws))) 0) ≡ true
+    by-test true e later l = e
+    by-test false e later l = later (le-of-suc-le-suc l)
 
 -- what is found has its mark, and ends in the listing
 abbrev pub Within : List ℕ → Found → Type 0

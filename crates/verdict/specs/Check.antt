@@ -13,6 +13,7 @@ use Rattle.layout.specs.Questions.{no}
 use Rattle.circuit.specs.declared.Relation.{Relation}
 use Rattle.circuit.specs.declared.Relation.the-variants.{Bin, Fld}
 use Rattle.circuit.specs.Rows.{Row, fromEach}
+use Rattle.circuit.specs.Circuit.{circuitWords}
 use Rattle.circuit.specs.Parse.{rowsOf}
 use Rattle.circuit.specs.Batched.{batchRow}
 use Rattle.circuit.specs.Valid.{validated}
@@ -49,20 +50,21 @@ inCycles d n rs = fromEach d n (λ e. map (inCycle e) rs)
 unfoldable pub constraints : ℕ → List Row → List Constraint
 constraints cpi rs = inCycles 0 cpi (ofRelation Bin rs) ++ inCycles 0 cpi (ofRelation Fld rs)
 
-module _ (view : ℕ → ℕ → Gf128) where
-  abbrev pub met : Constraint → Bool
-  met k = holds (view (k .cycle)) (k .row .sides)
+-- does a constraint hold in the cycles as they are seen?
+abbrev pub met : (ℕ → ℕ → Gf128) → Constraint → Bool
+met view k = holds (view (k .cycle)) (k .row .sides)
 
-  -- the verdict from here on, where n pairs were tested before: the first constraint that does not hold ends it
+-- the verdict from here on, where n pairs were tested before: the first constraint that does not hold ends it
+module _ (test : Constraint → Bool) where
   unfoldable pub run : ℕ → List Constraint → Verdict
   run n [] = Accepted n
   run n (k ∷ ks) =
-      cond (met k) (run (n + 1) ks)
+      cond (test k) (run (n + 1) ks)
       (Failed (k .row .relation) (batchRow (k .row .relation) (k .cycle) (k .row .number)) (n + 1))
 
 -- the verdict on a batch, with no question asked
 unfoldable pub judged : ℕ → List ℕ → List ℕ → Verdict
-judged cpi listing batch = run (cycleOf cpi batch) 0 (constraints cpi (rowsOf listing))
+judged cpi listing batch = run (met (cycleOf cpi batch)) 0 (constraints cpi (rowsOf listing))
 
 -- questions 1, 2, 5, and those on the listing; of batch and scratch the number of words
 unfoldable pub asked : ℕ → List ℕ → ℕ → ℕ → Asked
@@ -86,3 +88,11 @@ after (No r) v scratch = record { answer = Refused r; scratch = scratch }
 unfoldable pub checked : ℕ → List ℕ → List ℕ → List ℕ → Checked
 checked cpi listing batch scratch =
     after (asked cpi listing (length batch) (length scratch)) (judged cpi listing batch) scratch
+
+-- the same over the house listing, which is in order, and with no scratch: questions 1 and 2
+unfoldable pub houseChecked : ℕ → List ℕ → CheckAnswer
+houseChecked cpi batch =
+    cond (allowed cpi)
+    (cond (eqb (length batch) (8192 * cpi)) (Judged (judged cpi circuitWords batch))
+    (Refused (no 2 0)))
+    (Refused (no 1 0))

@@ -10,7 +10,6 @@ use native.Mathlib.Omega.{arith}
 use lib.Dec.{eqb}
 use lib.ListN.{length, getD, drop, drop-of-length-le}
 use lib.Seq.{drop-cons}
-use Rattle.field.specs.declared.Gf128.{Gf128}
 use Rattle.layout.specs.Questions.{passed, refused}
 use Rattle.circuit.specs.Words.{isMark, relationOf}
 use Rattle.circuit.specs.Rows.{Row, fromEach}
@@ -20,7 +19,7 @@ use Rattle.verdict.specs.declared.Verdict.{Verdict}
 use Rattle.verdict.specs.declared.Verdict.the-variants.{Failed}
 use Rattle.verdict.specs.Runs.{parse-mark}
 use Rattle.verdict.specs.Walks.{RowEnds}
-use Rattle.verdict.specs.Check.{Constraint, inCycle, inCycles, met, run}
+use Rattle.verdict.specs.Check.{Constraint, inCycle, inCycles, run}
 
 -- the words of the bin rows for relation 0, else those of the fld rows
 abbrev pub partAt : List ℕ → List ℕ → ℕ → List ℕ
@@ -94,16 +93,16 @@ module _ (cpi : ℕ) (bin fld : List ℕ) where
 
 -- ---- the verdict from there on
 
-module _ (view : ℕ → ℕ → Gf128) (n : ℕ) where
+module _ (test : Constraint → Bool) (n : ℕ) where
   -- carried along an equation of what is left
-  pub along : {ks ls : List Constraint} {v : Verdict} → ks ≡ ls → run view n ks ≡ v → run view n ls ≡ v
-  along e h = ap (run view n) (sym e) ∙ h
+  pub along : {ks ls : List Constraint} {v : Verdict} → ks ≡ ls → run test n ks ≡ v → run test n ls ≡ v
+  along e h = ap (run test n) (sym e) ∙ h
 
-  module _ {k : Constraint} {ks ls : List Constraint} {v : Verdict} (e : ks ≡ k ∷ ls) (h : run view n ks ≡ v) where
-    pub run-on : met view k ≡ true → run view (n + 1) ls ≡ v
+  module _ {k : Constraint} {ks ls : List Constraint} {v : Verdict} (e : ks ≡ k ∷ ls) (h : run test n ks ≡ v) where
+    pub run-on : test k ≡ true → run test (n + 1) ls ≡ v
     unfolding run
     run-on m = passed _ _ _ m ∙ along e h
 
-    pub run-stop : met view k ≡ false → Failed (k .row .relation) (batchRow (k .row .relation) (k .cycle) (k .row .number)) (n + 1) ≡ v
+    pub run-stop : test k ≡ false → Failed (k .row .relation) (batchRow (k .row .relation) (k .cycle) (k .row .number)) (n + 1) ≡ v
     unfolding run
     run-stop m = refused _ _ _ m ∙ along e h

@@ -1,5 +1,7 @@
 pub mod Row
 pub mod Check
+pub mod Apply
+pub mod Bits
 pub mod Runs
 pub mod Walks
 pub mod Order

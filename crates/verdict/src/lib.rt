@@ -1,14 +1,19 @@
 // The verdict on a batch: which row of which cycle is the first that does not hold, and how many were tested.
+pub mod bits;
 mod rows;
 mod walk;
 
+use crate::rows::row_sums;
 use circuit::Relation;
+use circuit::search::Found;
 use field::Gf128;
 use layout::Asked;
 use layout::Refusal;
 ghost use mathlib.Core.Path.{_≡_};
+ghost use Prim.Native.Nat.{_*_, _≤_};
 ghost use lib.ListN.{length, replicate};
-ghost use Rattle.verdict.specs.Check.{Checked, asked, checked};
+ghost use Rattle.verdict.specs.Apply.{RowFound, appliedAt, applied};
+ghost use Rattle.verdict.specs.Check.{Checked, asked, checked, houseChecked};
 
 // A verdict: `rows` counts the cycle-and-mark pairs that were tested, the failing one included; `row` is the batch row, 512 · d + r in
 // bin and 32 · d + r in fld.
@@ -28,6 +33,11 @@ pub struct Sums {
     pub a: Gf128,
     pub b: Gf128,
     pub c: Gf128,
+}
+
+pub enum ApplyAnswer {
+    Of(Sums),
+    Refused(Refusal),
 }
 
 // A refusal is no verdict.
@@ -81,5 +91,81 @@ pub fn check_row(cpi: usize, listing: &[u32], batch: &[u64], scratch: &mut [u64]
             clear(scratch);
             CheckAnswer::Judged(walk::walk(cpi, listing, batch))
         }
+    }
+}
+
+// The check against the house listing, which is known to be in order: questions 1 and 2 are all there is to ask.
+pub fn check_house(cpi: usize, batch: &[u64]) -> CheckAnswer
+    ensures { λ r. ⌜ r ≡ houseChecked cpi (now (batch .entry)) ⌝ }
+{
+    if !layout::is_allowed(cpi) {
+        return CheckAnswer::Refused(Refusal {
+            number: 1,
+            place: 0,
+        });
+    }
+    if batch.len() != 8192 * cpi {
+        return CheckAnswer::Refused(Refusal {
+            number: 2,
+            place: 0,
+        });
+    }
+    let listing = circuit::build_circuit();
+    CheckAnswer::Judged(walk::walk(cpi, &listing, batch))
+}
+
+// The sums of the row that was found, where the cycle is one of the batch.
+fn apply_row(cpi: usize, listing: &[u32], batch: &[u64], found: Found, cycle: usize) -> ApplyAnswer
+    requires { ⌜ (cpi ≤ 256) × ((length (now batch) ≡ 8192 * cpi) × RowFound (now listing) found) ⌝ }
+    ensures { λ r. ⌜ r ≡ appliedAt cpi (now (listing .entry)) (now (batch .entry)) cycle found ⌝ }
+{
+    match found {
+        Found::Refused(r) => ApplyAnswer::Refused(r),
+        Found::At { start, end: _ } => {
+            if cpi <= cycle {
+                return ApplyAnswer::Refused(Refusal {
+                    number: 15,
+                    place: 0,
+                });
+            }
+            let row = row_sums(cpi, listing, start + 1, batch, cycle);
+            let sums = row.sums;
+            ApplyAnswer::Of(sums)
+        }
+    }
+}
+
+// The sums of one row of the listing in one cycle: questions 1, 2, 6 to 10, 13 and 15.
+pub fn apply(
+    cpi: usize,
+    listing: &[u32],
+    batch: &[u64],
+    relation: Relation,
+    row: usize,
+    cycle: usize,
+) -> ApplyAnswer
+    ensures { λ r. ⌜ r ≡ applied cpi (now (listing .entry)) (now (batch .entry)) relation row cycle ⌝ }
+{
+    if !layout::is_allowed(cpi) {
+        return ApplyAnswer::Refused(Refusal {
+            number: 1,
+            place: 0,
+        });
+    }
+    if batch.len() != 8192 * cpi {
+        return ApplyAnswer::Refused(Refusal {
+            number: 2,
+            place: 0,
+        });
+    }
+    match circuit::questions::validate(listing) {
+        Asked::No(r) => ApplyAnswer::Refused(r),
+        Asked::Yes => apply_row(
+            cpi,
+            listing,
+            batch,
+            circuit::search::find_row(listing, relation, row),
+            cycle,
+        ),
     }
 }

@@ -14,7 +14,7 @@ ghost use Rattle.circuit.specs.Batched.{batchRow};
 ghost use Rattle.circuit.specs.Valid.{validated};
 ghost use Rattle.verdict.specs.Row.{cycleOf};
 ghost use Rattle.verdict.specs.Runs.{sorted};
-ghost use Rattle.verdict.specs.Check.{run, judged};
+ghost use Rattle.verdict.specs.Check.{met, run, judged};
 ghost use Rattle.verdict.specs.Order.{isFldMark};
 ghost use Rattle.verdict.specs.Left.{partAt, allParts};
 
@@ -57,7 +57,7 @@ fn batch_row(relation: Relation, cycle: usize, row: usize) -> usize
 // Left by its label at the first row that does not hold.
 fn walk_parts<'a>(cpi: usize, bin: &'a [u32], fld: &'a [u32], batch: &[u64]) -> Verdict
     requires { ⌜ (cpi ≤ 256) × ((length (now batch) ≡ 8192 * cpi) × ((length (now bin) ≤ 16384) × ((length (now fld) ≤ 16384) × ((sorted 3 (now bin) ≡ true) × (sorted 3 (now fld) ≡ true))))) ⌝ }
-    ensures { λ r. ⌜ r ≡ run (cycleOf cpi (now (batch .entry))) 0 (allParts cpi (now (bin .entry)) (now (fld .entry)) 0) ⌝ }
+    ensures { λ r. ⌜ r ≡ run (met (cycleOf cpi (now (batch .entry)))) 0 (allParts cpi (now (bin .entry)) (now (fld .entry)) 0) ⌝ }
 {
     let mut tested: usize = 0;
     let mut relation: usize = 0;

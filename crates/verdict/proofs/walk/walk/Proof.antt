@@ -14,7 +14,7 @@ use Rattle.circuit.specs.Parse.{rowsOf}
 use Rattle.circuit.specs.Found.{until}
 use Rattle.layout.specs.Sizes.{allowed-range}
 use Rattle.verdict.specs.Runs.{sorted}
-use Rattle.verdict.specs.Check.{inCycles, constraints, judged, run}
+use Rattle.verdict.specs.Check.{inCycles, constraints, met, judged, run}
 use Rattle.verdict.specs.Order.{isFldMark}
 use Rattle.verdict.specs.Split.{Split, InOrder, in-order}
 use Rattle.verdict.specs.Left.{allParts}
@@ -81,7 +81,7 @@ returns c =
     let b = c .before .before .before in let a = b .before .before .before .args in let e = b .first-fld .ensures in
     let o = in-order _ (b .before .before .before .pre .1 .1) in
     c .walk-parts .ensures
-    ∙ ap (run (cycleOf (a .cpi) (now (a .batch))) 0)
+    ∙ ap (run (met (cycleOf (a .cpi) (now (a .batch)))) 0)
     (ap (λ f. allParts (a .cpi) (take (b .first-fld .result) (now (a .listing))) f 0) (tail (now (a .listing)) (b .first-fld .result))
     ∙ same-constraints (a .cpi) (now (a .listing)) (b .first-fld .result) (subst (Split (now (a .listing))) (sym e) (o .halves)))
 

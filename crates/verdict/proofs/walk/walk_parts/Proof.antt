@@ -8,13 +8,14 @@ use native.Mathlib.Omega.{arith}
 use native.Mathlib.Numerals.{add-one}
 use borrow.Author.Needs.{needs}
 use borrow.Author.Tests.{not-true, not-false}
+use denote.Ref.{now}
 use lib.ListN.{length, getD, drop}
 use lib.Seq.{drop-cons}
 use Rattle.circuit.specs.Words.{isMark}
 use Rattle.circuit.specs.Batched.{batchRow}
 use Rattle.verdict.specs.Row.{cycleOf}
 use Rattle.verdict.specs.Runs.{sorted, mark-first}
-use Rattle.verdict.specs.Check.{run}
+use Rattle.verdict.specs.Check.{met, run}
 use Rattle.verdict.specs.Left.{of-parts, allParts, leftCycles, leftRows, relation-step, relation-end, cycle-step, cycle-end, row-end, row-here, along, run-on, run-stop}
 use Rattle.verdict.proofs.walk.walk_parts.Statement.{statement}
 use Rattle.verdict.proofs.walk.walk_parts.Tie as tie
@@ -29,7 +30,7 @@ at-mark part at h s =
 abbrev Inv-rows : tie.InvT-rows
 Inv-rows cpi bin fld batch tested₀ relation cycle part at₀ tested at =
     (at ≤ length part) × (length part ≤ 16384) × (tested ≤ relation * 4194304 + cycle * 16384 + at) × (sorted 3 (drop at part) ≡ true)
-    × (run (cycleOf cpi batch) tested (leftRows cpi bin fld part relation cycle at) ≡ run (cycleOf cpi batch) 0 (allParts cpi bin fld 0))
+    × (run (met (cycleOf cpi batch)) tested (leftRows cpi bin fld part relation cycle at) ≡ run (met (cycleOf cpi batch)) 0 (allParts cpi bin fld 0))
 
 abbrev μ-rows : tie.MeasureT-rows
 μ-rows cpi bin fld batch tested₀ relation cycle part at₀ tested at = length part - at
@@ -37,7 +38,7 @@ abbrev μ-rows : tie.MeasureT-rows
 abbrev Inv-cycles : tie.InvT-cycles
 Inv-cycles cpi bin fld batch tested₀ relation cycle₀ tested cycle =
     (cycle ≤ cpi) × (tested ≤ relation * 4194304 + cycle * 16384)
-    × (run (cycleOf cpi batch) tested (leftCycles cpi bin fld relation cycle) ≡ run (cycleOf cpi batch) 0 (allParts cpi bin fld 0))
+    × (run (met (cycleOf cpi batch)) tested (leftCycles cpi bin fld relation cycle) ≡ run (met (cycleOf cpi batch)) 0 (allParts cpi bin fld 0))
 
 abbrev μ-cycles : tie.MeasureT-cycles
 μ-cycles cpi bin fld batch tested₀ relation cycle₀ tested cycle = cpi - cycle
@@ -45,7 +46,7 @@ abbrev μ-cycles : tie.MeasureT-cycles
 abbrev Inv-relations : tie.InvT-relations
 Inv-relations cpi bin fld batch tested₀ relation₀ tested relation =
     (relation ≤ 2) × (tested ≤ relation * 4194304)
-    × (run (cycleOf cpi batch) tested (allParts cpi bin fld relation) ≡ run (cycleOf cpi batch) 0 (allParts cpi bin fld 0))
+    × (run (met (cycleOf cpi batch)) tested (allParts cpi bin fld relation) ≡ run (met (cycleOf cpi batch)) 0 (allParts cpi bin fld 0))
 
 abbrev μ-relations : tie.MeasureT-relations
 μ-relations cpi bin fld batch tested₀ relation₀ tested relation = 2 - relation
@@ -151,7 +152,9 @@ relations-again c = (search needs, omega arith, along _ _ (cycle-end _ _ _ _ _ (
 
 returns : tie.Need-returns Inv-rows μ-rows Inv-cycles μ-cycles Inv-relations μ-relations
 unfolding run
-returns c = along _ _ (relation-end _ _ _ _ (c .if1 .taken)) (c .before .relations .inv .2)
+returns c =
+    let a = c .before .before .before .before .before .args in
+    along (met (cycleOf (a .cpi) (now (a .batch)))) _ (relation-end _ _ _ _ (c .if1 .taken)) (c .before .relations .inv .2)
 
 returns-2 : tie.Need-returns-2 Inv-rows μ-rows Inv-cycles μ-cycles Inv-relations μ-relations
 returns-2 c =
