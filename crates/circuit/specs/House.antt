@@ -60,11 +60,12 @@ pub record Counts : Type 0 where
   pub fld-rows : length (joined fldFamilies) ≡ 31
   pub fld-terms : overSides length (joined fldFamilies) ≡ 1250
   pub zero-terms : overSides zeros (joined binFamilies) + overSides zeros (joined fldFamilies) ≡ 21
+  pub rows : length circuitRows ≡ 514
   pub words : length circuitWords ≡ 3499
 
 pub counts : Counts
 unfolding overSides zeros isZero circuitWords circuitRows binFamilies fldFamilies from fromEach joined numbered sideWords encode
-counts = record { bin-rows = refl; bin-terms = refl; fld-rows = refl; fld-terms = refl; zero-terms = refl; words = refl }
+counts = record { bin-rows = refl; bin-terms = refl; fld-rows = refl; fld-terms = refl; zero-terms = refl; rows = refl; words = refl }
 
 -- ---- P11 of the bench sheet
 

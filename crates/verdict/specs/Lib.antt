@@ -7,3 +7,7 @@ pub mod Walks
 pub mod Order
 pub mod Split
 pub mod Left
+pub mod Verdicts
+pub mod Depends
+pub mod OverBits
+pub mod Sheet

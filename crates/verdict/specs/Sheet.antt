@@ -1,0 +1,177 @@
+-- P4 and P5 of the bench sheet, of the check's own result: the all-zero row is accepted with rows 514; with only the one column 1, bin row
+-- 263 fails with rows 264.
+-- Assumes nothing.
+use mathlib.Core.Path.{_≡_, refl, sym, ap, ap₂, _∙_}
+use mathlib.Core.Bool.{Bool, true, false, cond, _&&_}
+use mathlib.Core.List.{List, [], _∷_, _++_, map}
+use Prim.Native.Nat.{ℕ, zero, suc, _+_, _-_, _*_, _≤_, _<_}
+use native.Mathlib.Decide.{decLt}
+use native.Mathlib.Nat.{mul-one, add-zero}
+use native.Mathlib.Omega.{arith}
+use borrow.Author.Tests.{eq-eqb, ne-eqb, lt-ltb, le-ltb, eqb-true, eqb-false}
+use lib.Dec.{eqb, ltb}
+use lib.ListN.{length, getD, set, replicate, length-set, length-replicate}
+use lib.Seq.{getD-set-same, getD-set-other}
+use Rattle.field.specs.declared.Gf128.{Gf128}
+use Rattle.field.specs.Gf.{ofWords, same, product, power, added}
+use Rattle.field.specs.Gf as gf
+use Rattle.field.specs.Gf.Laws.{words-zero, words-one, zero-mul, add-zero as add-nothing}
+use Rattle.field.specs.Gf.Tests.{same-self}
+use Rattle.layout.specs.declared.Asked.the-variants.{Yes}
+use Rattle.layout.specs.Batch.{allowed, columnAt}
+use Rattle.layout.specs.Questions.{both, passed, refused}
+use Rattle.circuit.specs.declared.Coefficient.{Coefficient}
+use Rattle.circuit.specs.declared.Coefficient.the-variants.{Zero, Power}
+use Rattle.circuit.specs.declared.Relation.the-variants.{Bin, Fld}
+use Rattle.circuit.specs.Rows.{Term, Sides, Row, from, fromEach, joined, numbered}
+use Rattle.circuit.specs.Circuit.{binFamilies, fldFamilies, circuitRows, circuitWords}
+use Rattle.circuit.specs.Parse.{rowsOf}
+use Rattle.circuit.specs.House.{words-read, in-order, counts}
+use Rattle.circuit.specs.Valid.{validated}
+use Rattle.verdict.specs.declared.Verdict.the-variants.{Accepted, Failed}
+use Rattle.verdict.specs.declared.CheckAnswer.the-variants.{Judged}
+use Rattle.verdict.specs.Row.{elementAt, cycleOf, times, sumOf, balanced, holds}
+use Rattle.verdict.specs.Check.{Checked, Constraint, inCycle, inCycles, ofRelation, constraints, met, run, judged, asked, after, checked}
+use Rattle.verdict.specs.Verdicts.{All, all-append, run-same, run-stops, accepts}
+use Rattle.verdict.specs.OverBits.{bitOf, plain, plainRow, sumBits, holdsBits, holds-bits}
+
+-- ---- the questions are passed, whatever stands in batch and scratch
+
+checked-is : (batch scratch : List ℕ) → length batch ≡ 8192 → length scratch ≡ 3072
+    → checked 1 circuitWords batch scratch ≡ record { answer = Judged (judged 1 circuitWords batch); scratch = replicate 3072 0 }
+unfolding checked asked allowed
+checked-is batch scratch b s =
+    ap (λ q. after q (judged 1 circuitWords batch) scratch)
+    (sym (listed ∙ passed _ _ _ (eq-eqb (length scratch) 3072 s) ∙ passed _ _ _ (eq-eqb (length batch) (8192 * 1) b)))
+    ∙ ap (λ n. record { answer = Judged (judged 1 circuitWords batch); scratch = replicate n 0 }) s
+  where
+    listed : Yes ≡ validated circuitWords
+    listed = sym in-order
+
+-- ---- P4: over zeros every sum is zero
+
+zeros : (n i : ℕ) → _≡_ {A = ℕ} (getD (replicate n 0) i 0) 0
+zeros zero i = refl
+zeros (suc n) zero = refl
+zeros (suc n) (suc i) = zeros n i
+
+nothing : (n cpi d c : ℕ) → cycleOf cpi (replicate n 0) d c ≡ gf.zero
+unfolding cycleOf
+nothing n cpi d c = ap₂ ofWords (zeros n (2 * columnAt cpi c d)) (zeros n (2 * columnAt cpi c d + 1)) ∙ words-zero
+
+module _ (z : ℕ → Gf128) (none : (c : ℕ) → z c ≡ gf.zero) where
+  term-zero : (k : Coefficient) (c : ℕ) → times k (z c) ≡ gf.zero
+  term-zero Zero c = refl
+  term-zero (Power k) c = ap (λ x. product x (power k)) (none c) ∙ zero-mul (power k)
+
+  sum-zero : (ts : List Term) → sumOf z ts ≡ gf.zero
+  unfolding sumOf
+  sum-zero [] = refl
+  sum-zero (t ∷ ts) = ap₂ added (term-zero (t .coefficient) (t .column)) (sum-zero ts) ∙ add-nothing gf.zero
+
+  holds-zero : (s : Sides) → holds z s ≡ true
+  unfolding balanced
+  holds-zero s = ap₂ same (ap₂ product (sum-zero (s .a)) (sum-zero (s .b)) ∙ zero-mul gf.zero) (sum-zero (s .c)) ∙ same-self gf.zero
+
+  all-hold : (rs : List Row) → All (λ r. holds z (r .sides) ≡ true) rs
+  all-hold [] = tt
+  all-hold (r ∷ rs) = (holds-zero (r .sides), all-hold rs)
+
+-- whatever the batch size
+pub zeros-accepted : (cpi n : ℕ) → judged cpi circuitWords (replicate n 0) ≡ Accepted (cpi * 514)
+zeros-accepted cpi n =
+    accepts cpi circuitWords (replicate n 0) (λ d h. all-hold (cycleOf cpi (replicate n 0) d) (nothing n cpi d) (rowsOf circuitWords))
+    ∙ ap (λ (rs : List Row). Accepted (cpi * length rs)) words-read ∙ ap (λ (k : ℕ). Accepted (cpi * k)) (counts .rows)
+
+pub p4 : (scratch : List ℕ) → length scratch ≡ 3072
+    → checked 1 circuitWords (replicate 8192 0) scratch ≡ record { answer = Judged (Accepted 514); scratch = replicate 3072 0 }
+p4 scratch s =
+    checked-is (replicate 8192 0) scratch (length-replicate {A = ℕ} 8192 0) s
+    ∙ ap (λ v. record { answer = Judged v; scratch = replicate 3072 0 }) (zeros-accepted 1 8192)
+
+-- ---- P5: over bits, of which the one column alone is 1
+
+-- the words of that row: element 2048 has its low word at 4096
+abbrev pub oneRow : List ℕ
+oneRow = set (replicate 8192 0) 4096 1
+
+abbrev isOneColumn : ℕ → Bool
+isOneColumn c = eqb c 2048
+
+column-is : (c : ℕ) → columnAt 1 c 0 ≡ c
+unfolding columnAt
+column-is c =
+    elim (decLt c 2048) [
+      | yes h ↦ sym (passed _ _ _ (lt-ltb c 2048 h)) ∙ omega (arith, mul-one c)
+      | no f ↦ sym (refused _ _ _ (le-ltb c 2048 (omega arith))) ∙ omega arith
+    ]
+
+word-other : (i : ℕ) → (i ≡ 4096 → ⊥) → getD oneRow i 0 ≡ 0
+word-other i f = getD-set-other (replicate 8192 0) 4096 i 1 0 f ∙ zeros 8192 i
+
+one-view : (c : ℕ) → cycleOf 1 oneRow 0 c ≡ bitOf (isOneColumn c)
+unfolding cycleOf
+one-view c = ap (elementAt oneRow) (column-is c) ∙ by-test (isOneColumn c) refl
+  where
+    by-test : (b : Bool) → isOneColumn c ≡ b → elementAt oneRow c ≡ bitOf b
+    by-test true e =
+        ap (elementAt oneRow) (eqb-true c 2048 e)
+        ∙ ap₂ ofWords (getD-set-same (replicate 8192 0) 4096 1 0 (omega (arith, length-replicate {A = ℕ} 8192 0))) (word-other 4097 (λ q. omega arith)) ∙ words-one
+    by-test false e =
+        let f = eqb-false c 2048 e in ap₂ ofWords (word-other (2 * c) (λ q. f (omega arith))) (word-other (2 * c + 1) (λ q. omega arith)) ∙ words-zero
+
+-- the bin rows have coefficients 0 and 1 only
+plainBins : List Constraint → Bool
+plainBins [] = true
+plainBins (k ∷ ks) = plainRow (k .row .sides) && plainBins ks
+
+-- cycle 0 is the only one
+abbrev atZero : Constraint → Type 0
+atZero k = k .cycle ≡ 0
+
+abbrev overBits : Constraint → Bool
+overBits k = holdsBits isOneColumn (k .row .sides)
+
+same-tests : (ks : List Constraint) → All atZero ks → plainBins ks ≡ true → All (λ k. met (cycleOf 1 oneRow) k ≡ overBits k) ks
+unfolding plainBins
+same-tests [] z p = tt
+same-tests (k ∷ ks) z p =
+    let b = both (plainRow (k .row .sides)) (plainBins ks) p in (
+      ap (λ (d : ℕ). holds (cycleOf 1 oneRow d) (k .row .sides)) (z .0)
+          ∙ holds-bits (cycleOf 1 oneRow 0) isOneColumn one-view (k .row .sides) (b .0),
+      same-tests ks (z .1) (b .1),
+    )
+
+bins : List Constraint
+bins = inCycles 0 1 (ofRelation Bin circuitRows)
+
+all-zero : (rs : List Row) → All atZero (inCycles 0 1 rs)
+unfolding fromEach
+all-zero rs = all-append atZero (map (inCycle 0) rs) [] (in-zero rs) tt
+  where
+    in-zero : (rs : List Row) → All atZero (map (inCycle 0) rs)
+    in-zero [] = tt
+    in-zero (r ∷ rs) = (refl, in-zero rs)
+
+-- the two computed tests
+bins-plain : plainBins bins ≡ true
+unfolding plainBins plain bins ofRelation circuitRows binFamilies fldFamilies from fromEach joined numbered
+bins-plain = refl
+
+bins-run : run overBits 0 bins ≡ Failed Bin 263 264
+unfolding run sumBits bins ofRelation circuitRows binFamilies fldFamilies from fromEach joined numbered
+bins-run = refl
+
+one-judged : judged 1 circuitWords oneRow ≡ Failed Bin 263 264
+unfolding judged constraints bins
+one-judged =
+    ap (λ (rs : List Row). run (met (cycleOf 1 oneRow)) 0 (constraints 1 rs)) words-read
+    ∙ run-stops (met (cycleOf 1 oneRow)) (inCycles 0 1 (ofRelation Bin circuitRows)) (inCycles 0 1 (ofRelation Fld circuitRows)) 0
+    (run-same (met (cycleOf 1 oneRow)) overBits (inCycles 0 1 (ofRelation Bin circuitRows)) 0
+    (same-tests (inCycles 0 1 (ofRelation Bin circuitRows)) (all-zero (ofRelation Bin circuitRows)) bins-plain) ∙ bins-run)
+
+pub p5 : (scratch : List ℕ) → length scratch ≡ 3072
+    → checked 1 circuitWords oneRow scratch ≡ record { answer = Judged (Failed Bin 263 264); scratch = replicate 3072 0 }
+p5 scratch s =
+    checked-is oneRow scratch (length-set {A = ℕ} (replicate 8192 0) 4096 1 ∙ length-replicate {A = ℕ} 8192 0) s
+    ∙ ap (λ v. record { answer = Judged v; scratch = replicate 3072 0 }) one-judged

@@ -1,0 +1,248 @@
+-- What a verdict says, for whoever builds on it: acceptance is that every row holds in every cycle; a failure names the first constraint
+-- that does not hold, and counts those before it; the walk can be cut anywhere.
+-- Assumes nothing.
+use mathlib.Core.Path.{_≡_, refl, sym, ap, ap₂, subst, _∙_}
+use mathlib.Core.Logic.{_↔_, ⊎-elim}
+use mathlib.Core.Bool.{Bool, true, false, cond, true≢false, false≢true}
+use mathlib.Core.List.{List, [], _∷_, _++_, map}
+use Prim.Native.Nat.{ℕ, zero, suc, _+_, _*_, _<_, _≤_}
+use native.Mathlib.Nat.{add-zero, suc-mul, mul-add, eq-or-lt-of-le}
+use native.Mathlib.Numerals.{add-one}
+use native.Mathlib.Omega.{arith}
+use lib.ListN.{length, length-append}
+use Rattle.layout.specs.Questions.{passed, refused}
+use Rattle.circuit.specs.declared.Relation.{Relation}
+use Rattle.circuit.specs.declared.Relation.the-variants.{Bin, Fld}
+use Rattle.circuit.specs.Rows.{Row, fromEach}
+use Rattle.circuit.specs.Parse.{rowsOf}
+use Rattle.circuit.specs.Batched.{batchRow}
+use Rattle.verdict.specs.declared.Verdict.{Verdict}
+use Rattle.verdict.specs.declared.Verdict.the-variants.{Accepted, Failed}
+use Rattle.verdict.specs.Check.{Constraint, inCycle, sameRelation, ofRelation, inCycles, constraints, met, run, judged}
+use Rattle.verdict.specs.Row.{cycleOf, holds}
+
+-- something is so of every element of a list
+abbrev pub All : {A : Type 0} → (A → Type 0) → List A → Type 0
+All P [] = Unit
+All P (x ∷ xs) = P x × All P xs
+
+module _ {A : Type 0} (P : A → Type 0) where
+  pub all-append : (xs ys : List A) → All P xs → All P ys → All P (xs ++ ys)
+  all-append [] ys p q = q
+  all-append (x ∷ xs) ys p q = (p .0, all-append xs ys (p .1) q)
+
+  pub all-left : (xs ys : List A) → All P (xs ++ ys) → All P xs
+  all-left [] ys p = tt
+  all-left (x ∷ xs) ys p = (p .0, all-left xs ys (p .1))
+
+  pub all-right : (xs ys : List A) → All P (xs ++ ys) → All P ys
+  all-right [] ys p = p
+  all-right (x ∷ xs) ys p = all-right xs ys (p .1)
+
+-- ---- the walk, for any test
+
+module _ (test : Constraint → Bool) where
+  abbrev pub Met : List Constraint → Type 0
+  Met ks = All (λ k. test k ≡ true) ks
+
+  -- from any point on: what was met before counts, and decides nothing else
+  pub run-past : (xs ys : List Constraint) (n : ℕ) → Met xs → run test n (xs ++ ys) ≡ run test (n + length xs) ys
+  unfolding run
+  run-past [] ys n p = ap (λ m. run test m ys) (sym (add-zero n))
+  run-past (x ∷ xs) ys n p =
+      sym (passed (test x) _ _ (p .0)) ∙ run-past xs ys (n + 1) (p .1) ∙ ap (λ m. run test m ys) (omega arith)
+
+  pub run-met : (ks : List Constraint) (n : ℕ) → Met ks → run test n ks ≡ Accepted (n + length ks)
+  unfolding run
+  run-met [] n p = ap Accepted (sym (add-zero n))
+  run-met (k ∷ ks) n p = sym (passed (test k) _ _ (p .0)) ∙ run-met ks (n + 1) (p .1) ∙ ap Accepted (omega arith)
+
+  -- a failure: what was met before it, the constraint, and what it says
+  pub record FailedAt (n : ℕ) (ks : List Constraint) (v : Verdict) : Type 0 where
+    pub earlier : List Constraint
+    pub first : Constraint
+    pub later : List Constraint
+    pub order : ks ≡ earlier ++ (first ∷ later)
+    pub held : Met earlier
+    pub fails : test first ≡ false
+    pub says : v ≡ Failed (first .row .relation) (batchRow (first .row .relation) (first .cycle) (first .row .number)) (n + length earlier + 1)
+
+  -- every verdict is one or the other
+  pub data Outcome (n : ℕ) (ks : List Constraint) (v : Verdict) : Type 0 where
+    all-met : Met ks → v ≡ Accepted (n + length ks) → Outcome n ks v
+    one-fails : FailedAt n ks v → Outcome n ks v
+
+  pub outcome : (ks : List Constraint) (n : ℕ) → Outcome n ks (run test n ks)
+  unfolding run
+  outcome [] n = all-met tt (ap Accepted (sym (add-zero n)))
+  outcome (k ∷ ks) n = by-test (test k) refl (outcome ks (n + 1))
+    where
+      stop : Verdict
+      stop = Failed (k .row .relation) (batchRow (k .row .relation) (k .cycle) (k .row .number)) (n + 1)
+
+      go : test k ≡ true → Outcome (n + 1) ks (run test (n + 1) ks) → Outcome n (k ∷ ks) (run test (n + 1) ks)
+      go e (all-met p q) = all-met (e, p) (q ∙ ap Accepted (omega arith))
+      go e (one-fails f) =
+          one-fails
+          (record {
+            earlier = k ∷ f .earlier;
+            first = f .first;
+            later = f .later;
+            order = ap (λ ls. k ∷ ls) (f .order);
+            held = (e, f .held);
+            fails = f .fails;
+            says = f .says ∙ ap (Failed (f .first .row .relation) (batchRow (f .first .row .relation) (f .first .cycle) (f .first .row .number))) (omega arith);
+          })
+
+      by-test : (b : Bool) → test k ≡ b → Outcome (n + 1) ks (run test (n + 1) ks) → Outcome n (k ∷ ks) (cond b (run test (n + 1) ks) stop)
+      by-test true e o = go e o
+      by-test false e o =
+          one-fails
+          (record {
+            earlier = [];
+            first = k;
+            later = ks;
+            order = refl;
+            held = tt;
+            fails = e;
+            says = ap (Failed (k .row .relation) (batchRow (k .row .relation) (k .cycle) (k .row .number))) (omega arith);
+          })
+
+  pub met-run : (ks : List Constraint) (n m : ℕ) → run test n ks ≡ Accepted m → Met ks
+  met-run ks n m e = go (outcome ks n)
+    where
+      go : Outcome n ks (run test n ks) → Met ks
+      go (all-met p q) = p
+      go (one-fails f) = let s = f .says in let z : _≡_ {A = ℕ} 0 1 = cc in absurd (omega arith)
+
+-- a failure is not undone by what follows it
+pub run-stops : (test : Constraint → Bool) (xs ys : List Constraint) (n : ℕ) {rel : Relation} {row rows : ℕ}
+    → run test n xs ≡ Failed rel row rows → run test n (xs ++ ys) ≡ Failed rel row rows
+unfolding run
+run-stops test [] ys n e = let z : _≡_ {A = ℕ} 0 1 = cc in absurd (omega arith)
+run-stops test (x ∷ xs) ys n {rel} {row} {rows} e = by-test (test x) refl (run-stops test xs ys (n + 1)) e
+  where
+    stop : Verdict
+    stop = Failed (x .row .relation) (batchRow (x .row .relation) (x .cycle) (x .row .number)) (n + 1)
+
+    by-test : (b : Bool) → test x ≡ b → (run test (n + 1) xs ≡ Failed rel row rows → run test (n + 1) (xs ++ ys) ≡ Failed rel row rows)
+        → cond b (run test (n + 1) xs) stop ≡ Failed rel row rows → cond b (run test (n + 1) (xs ++ ys)) stop ≡ Failed rel row rows
+    by-test true q later e = later e
+    by-test false q later e = e
+
+-- tests that agree give one verdict
+pub run-same : (f g : Constraint → Bool) (ks : List Constraint) (n : ℕ) → All (λ k. f k ≡ g k) ks → run f n ks ≡ run g n ks
+unfolding run
+run-same f g [] n p = refl
+run-same f g (k ∷ ks) n p =
+    ap₂ (λ b v. cond b v (Failed (k .row .relation) (batchRow (k .row .relation) (k .cycle) (k .row .number)) (n + 1))) (p .0) (run-same f g ks (n + 1) (p .1))
+
+-- ---- the constraints
+
+count-cycles : (rs : List Row) (n d : ℕ) → length (inCycles d n rs) ≡ n * length rs
+unfolding fromEach
+count-cycles rs zero d = omega arith
+count-cycles rs (suc n) d =
+    length-append (map (inCycle d) rs) (inCycles (suc d) n rs) ∙ ap₂ _+_ (mapped rs) (count-cycles rs n (suc d)) ∙ omega (arith, suc-mul n (length rs))
+  where
+    mapped : (rs : List Row) → length (map (inCycle d) rs) ≡ length rs
+    mapped [] = refl
+    mapped (r ∷ rs) = ap suc (mapped rs)
+
+-- a row is of one relation or the other
+count-relations : (rs : List Row) → length (ofRelation Bin rs) + length (ofRelation Fld rs) ≡ length rs
+unfolding ofRelation
+count-relations [] = refl
+count-relations (r ∷ rs) = by-relation (r .relation) (count-relations rs)
+  where
+    by-relation : (rel : Relation) → length (ofRelation Bin rs) + length (ofRelation Fld rs) ≡ length rs
+        → length (cond (sameRelation rel Bin) (r ∷ ofRelation Bin rs) (ofRelation Bin rs))
+        + length (cond (sameRelation rel Fld) (r ∷ ofRelation Fld rs) (ofRelation Fld rs)) ≡ suc (length rs)
+    by-relation Bin e = omega arith
+    by-relation Fld e = omega arith
+
+-- as many as there are cycles and rows
+pub constraint-count : (cpi : ℕ) (rs : List Row) → length (constraints cpi rs) ≡ cpi * length rs
+unfolding constraints
+constraint-count cpi rs =
+    length-append (inCycles 0 cpi (ofRelation Bin rs)) (inCycles 0 cpi (ofRelation Fld rs))
+    ∙ ap₂ _+_ (count-cycles (ofRelation Bin rs) cpi 0) (count-cycles (ofRelation Fld rs) cpi 0)
+    ∙ sym (mul-add cpi (length (ofRelation Bin rs)) (length (ofRelation Fld rs))) ∙ ap (λ n. cpi * n) (count-relations rs)
+
+module _ (P : Row → Type 0) where
+  all-of : (rel : Relation) (rs : List Row) → All P rs → All P (ofRelation rel rs)
+  unfolding ofRelation
+  all-of rel [] p = tt
+  all-of rel (r ∷ rs) p = by-test (sameRelation (r .relation) rel) (all-of rel rs (p .1))
+    where
+      by-test : (b : Bool) → All P (ofRelation rel rs) → All P (cond b (r ∷ ofRelation rel rs) (ofRelation rel rs))
+      by-test true q = (p .0, q)
+      by-test false q = q
+
+  of-all : (rs : List Row) → All P (ofRelation Bin rs) → All P (ofRelation Fld rs) → All P rs
+  unfolding ofRelation
+  of-all [] p q = tt
+  of-all (r ∷ rs) p q = by-relation (r .relation) p q (of-all rs)
+    where
+      by-relation : (rel : Relation) → All P (cond (sameRelation rel Bin) (r ∷ ofRelation Bin rs) (ofRelation Bin rs))
+          → All P (cond (sameRelation rel Fld) (r ∷ ofRelation Fld rs) (ofRelation Fld rs))
+          → (All P (ofRelation Bin rs) → All P (ofRelation Fld rs) → All P rs) → P r × All P rs
+      by-relation Bin p q later = (p .0, later (p .1) q)
+      by-relation Fld p q later = (q .0, later p (q .1))
+
+module _ (P : Constraint → Type 0) where
+  abbrev InCycle : ℕ → List Row → Type 0
+  InCycle d rs = All (λ r. P (inCycle d r)) rs
+
+  to-cycle : (d : ℕ) (rs : List Row) → InCycle d rs → All P (map (inCycle d) rs)
+  to-cycle d [] p = tt
+  to-cycle d (r ∷ rs) p = (p .0, to-cycle d rs (p .1))
+
+  from-cycle : (d : ℕ) (rs : List Row) → All P (map (inCycle d) rs) → InCycle d rs
+  from-cycle d [] p = tt
+  from-cycle d (r ∷ rs) p = (p .0, from-cycle d rs (p .1))
+
+  to-cycles : (rs : List Row) (n d : ℕ) → ((e : ℕ) → d ≤ e → e < d + n → InCycle e rs) → All P (inCycles d n rs)
+  unfolding fromEach
+  to-cycles rs zero d h = tt
+  to-cycles rs (suc n) d h =
+      all-append P (map (inCycle d) rs) (inCycles (suc d) n rs) (to-cycle d rs (h d (omega arith) (omega arith)))
+      (to-cycles rs n (suc d) (λ e l u. h e (omega arith) (omega arith)))
+
+  from-cycles : (rs : List Row) (n d : ℕ) → All P (inCycles d n rs) → (e : ℕ) → d ≤ e → e < d + n → InCycle e rs
+  unfolding fromEach
+  from-cycles rs zero d p e l u = absurd (omega arith)
+  from-cycles rs (suc n) d p e l u =
+      ⊎-elim (λ q. subst (λ k. InCycle k rs) q (from-cycle d rs (all-left P (map (inCycle d) rs) (inCycles (suc d) n rs) p)))
+      (λ g. from-cycles rs n (suc d) (all-right P (map (inCycle d) rs) (inCycles (suc d) n rs) p) e g (omega arith)) (eq-or-lt-of-le l)
+
+  -- every constraint: every row in every cycle
+  pub every-constraint : (cpi : ℕ) (rs : List Row) → All P (constraints cpi rs) ↔ ((d : ℕ) → d < cpi → InCycle d rs)
+  unfolding constraints
+  every-constraint cpi rs = (
+    λ p d h. of-all (λ r. P (inCycle d r)) rs
+        (from-cycles (ofRelation Bin rs) cpi 0 (all-left P (inCycles 0 cpi (ofRelation Bin rs)) (inCycles 0 cpi (ofRelation Fld rs)) p) d (omega arith) (omega arith))
+        (from-cycles (ofRelation Fld rs) cpi 0 (all-right P (inCycles 0 cpi (ofRelation Bin rs)) (inCycles 0 cpi (ofRelation Fld rs)) p) d (omega arith) (omega arith)),
+    λ h. all-append P (inCycles 0 cpi (ofRelation Bin rs)) (inCycles 0 cpi (ofRelation Fld rs))
+        (to-cycles (ofRelation Bin rs) cpi 0 (λ e l u. all-of (λ r. P (inCycle e r)) Bin rs (h e (omega arith))))
+        (to-cycles (ofRelation Fld rs) cpi 0 (λ e l u. all-of (λ r. P (inCycle e r)) Fld rs (h e (omega arith)))),
+  )
+
+-- ---- acceptance
+
+module _ (cpi : ℕ) (listing batch : List ℕ) where
+  -- every row of the listing holds in every cycle
+  abbrev pub EveryRowHolds : Type 0
+  EveryRowHolds = (d : ℕ) → d < cpi → All (λ r. holds (cycleOf cpi batch d) (r .sides) ≡ true) (rowsOf listing)
+
+  pub accepts : EveryRowHolds → judged cpi listing batch ≡ Accepted (cpi * length (rowsOf listing))
+  unfolding judged
+  accepts h =
+      run-met (met (cycleOf cpi batch)) (constraints cpi (rowsOf listing)) 0 (every-constraint (λ k. met (cycleOf cpi batch) k ≡ true) cpi (rowsOf listing) .1 h)
+      ∙ ap Accepted (omega (arith, constraint-count cpi (rowsOf listing)))
+
+  pub accepted : (n : ℕ) → judged cpi listing batch ≡ Accepted n → EveryRowHolds
+  unfolding judged
+  accepted n e =
+      every-constraint (λ k. met (cycleOf cpi batch) k ≡ true) cpi (rowsOf listing) .0
+      (met-run (met (cycleOf cpi batch)) (constraints cpi (rowsOf listing)) 0 n e)
