@@ -1,10 +1,13 @@
 -- Answers as single numbers, for a caller in another language: a refusal is 2^63 and its number.
 -- Assumes nothing.
 use mathlib.Core.Bool.{cond}
-use Prim.Native.Nat.{ℕ, zero, suc, _+_, _*_, _^_}
-use lib.Dec.{eqb}
+use mathlib.Core.List.{List, [], _∷_, _++_}
+use Prim.Native.Nat.{ℕ, zero, suc, _+_, _*_, _%_, _^_}
+use lib.Dec.{eqb, ltb}
+use lib.ListN.{length, getD, drop}
 use Rattle.field.specs.declared.Gf128.{Gf128}
 use Rattle.field.specs.Gf.{low, high}
+use Rattle.layout.specs.Segments.{segments, segmentNames, segmentStarts, segmentLengths}
 use Rattle.layout.specs.declared.Refusal.{Refusal}
 use Rattle.layout.specs.declared.InstanceGeometry.{InstanceGeometry}
 use Rattle.layout.specs.declared.GeometryAnswer.{GeometryAnswer}
@@ -19,6 +22,16 @@ use Rattle.circuit.specs.declared.Coefficient.{Coefficient}
 use Rattle.circuit.specs.declared.Coefficient.the-variants.{Zero, Power}
 use Rattle.circuit.specs.declared.batch.BatchWord.{BatchWord}
 use Rattle.circuit.specs.declared.batch.BatchWord.the-variants.{Row, Term, Refused}
+use Rattle.verdict.specs.declared.Verdict.{Verdict}
+use Rattle.verdict.specs.declared.Verdict.the-variants.{Accepted, Failed}
+use Rattle.verdict.specs.declared.CheckAnswer.{CheckAnswer}
+use Rattle.verdict.specs.declared.CheckAnswer.the-variants.{Judged, Refused as NotJudged}
+use Rattle.verdict.specs.declared.Sums.{Sums}
+use Rattle.verdict.specs.declared.ApplyAnswer.{ApplyAnswer}
+use Rattle.verdict.specs.declared.ApplyAnswer.the-variants.{Of as Summed, Refused as NotSummed}
+use Rattle.verdict.specs.declared.bits.BitAnswer.{BitAnswer}
+use Rattle.verdict.specs.declared.bits.BitAnswer.the-variants.{AllBits, NotBit, Refused as NotTested}
+use Rattle.verdict.specs.Check.{Checked}
 
 -- the low word of an element for 0, else the high one
 abbrev pub wordOf : ℕ → Gf128 → ℕ
@@ -60,3 +73,74 @@ abbrev pub batchNumber : BatchWord → ℕ
 batchNumber (Row rel n) = n + markNumber rel * 2 ^ 40
 batchNumber (Term side k c) = c + coefficientNumber k * 2 ^ 32 + side * 2 ^ 40
 batchNumber (Refused r) = refusalNumber r
+
+-- ---- the check: a refusal also says its place
+
+-- 2^63, 2^32 times the number, and the place, of which 32 bits are kept
+abbrev pub refusedAt : Refusal → ℕ
+refusedAt r = 2 ^ 63 + r .number * 2 ^ 32 + r .place % 2 ^ 32
+
+-- 2^62, and 2^61 for fld
+abbrev pub failedIn : Relation → ℕ
+failedIn Bin = 2 ^ 62
+failedIn Fld = 2 ^ 62 + 2 ^ 61
+
+-- accepted: the rows tested; failed: its relation, 2^32 times the rows tested, and the batch row. Of the rows 29 bits are kept, of a
+-- batch row 32, which is more than a batch has
+abbrev pub verdictNumber : Verdict → ℕ
+verdictNumber (Accepted rows) = rows % 2 ^ 29
+verdictNumber (Failed rel row rows) = failedIn rel + rows % 2 ^ 29 * 2 ^ 32 + row % 2 ^ 32
+
+abbrev pub checkNumber : CheckAnswer → ℕ
+checkNumber (Judged v) = verdictNumber v
+checkNumber (NotJudged r) = refusedAt r
+
+-- a number, and what the lent slice holds afterwards
+pub record Reply : Type 0 where
+  pub answer : ℕ
+  pub words : List ℕ
+
+abbrev pub reply : ℕ → List ℕ → Reply
+reply n ws = record { answer = n; words = ws }
+
+abbrev pub checkReply : Checked → Reply
+checkReply c = reply (checkNumber (c .answer)) (c .scratch)
+
+-- 0 is bin, any other number fld
+abbrev pub chosenRelation : ℕ → Relation
+chosenRelation n = cond (eqb n 0) Bin Fld
+
+-- six words: A, B and C, of each the low word first
+abbrev pub sumWords : Sums → List ℕ
+sumWords s = low (s .a) ∷ high (s .a) ∷ low (s .b) ∷ high (s .b) ∷ low (s .c) ∷ high (s .c) ∷ []
+
+-- sums are written over the first six words, with the answer 0; a refusal writes nothing
+abbrev pub sumsReply : ApplyAnswer → List ℕ → Reply
+sumsReply (Summed s) out = reply 0 (sumWords s ++ drop 6 out)
+sumsReply (NotSummed r) out = reply (refusedAt r) out
+
+-- with no room for six words nothing is asked, and the answer is 2^63
+abbrev pub applyReply : ApplyAnswer → List ℕ → Reply
+applyReply a out = cond (ltb (length out) 6) (reply (2 ^ 63) out) (sumsReply a out)
+
+-- all bits: 0; else 2^62, 2^48 times the cycle, 2^32 times the column, and the batch column
+abbrev pub bitNumber : BitAnswer → ℕ
+bitNumber AllBits = 0
+bitNumber (NotBit at c d) = 2 ^ 62 + d * 2 ^ 48 + c * 2 ^ 32 + at
+bitNumber (NotTested r) = refusedAt r
+
+-- ---- the tables of columns and segments
+
+-- entry i of a list, 2^63 past its end
+abbrev pub entryOf : ℕ → List ℕ → ℕ
+entryOf i xs = getD xs i (2 ^ 63)
+
+-- byte k of the name of segment i: names are filled up with blanks to 9 bytes
+abbrev pub nameByte : ℕ → ℕ → ℕ
+nameByte i k = cond (ltb k 9) (entryOf (9 * i + k) (segmentNames segments)) (2 ^ 63)
+
+-- of segment i: part 0 is its start, 1 its length, 2 + k byte k of its name
+abbrev pub segmentPart : ℕ → ℕ → ℕ
+segmentPart i zero = entryOf i (segmentStarts segments)
+segmentPart i (suc zero) = entryOf i (segmentLengths segments)
+segmentPart i (suc (suc k)) = nameByte i k

@@ -1,5 +1,8 @@
 // What the comparison with the original calls from Rust: the product's own functions behind C names, on numbers alone. Not part of
 // the product's C boundary.
+pub mod check;
+pub mod tables;
+
 ghost use mathlib.Core.Path.{_≡_};
 ghost use Prim.Native.Nat.{_<_, _^_};
 ghost use Rattle.field.specs.Gf.{ofWords, added, product, shifted, power};

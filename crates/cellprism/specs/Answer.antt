@@ -1,0 +1,29 @@
+-- The check of a row over the C boundary, and its answer as one 32-bit word (document 01, "Makers and readers").
+-- Assumes nothing.
+use mathlib.Core.Bool.{cond}
+use mathlib.Core.List.{List}
+use Prim.Native.Nat.{ℕ, _+_, _*_, _%_, _^_}
+use lib.Dec.{eqb}
+use lib.ListN.{length}
+use Rattle.layout.specs.Questions.{no}
+use Rattle.circuit.specs.Words.{flagWord}
+use Rattle.verdict.specs.declared.Verdict.{Verdict}
+use Rattle.verdict.specs.declared.Verdict.the-variants.{Accepted, Failed}
+use Rattle.verdict.specs.declared.CheckAnswer.{CheckAnswer}
+use Rattle.verdict.specs.declared.CheckAnswer.the-variants.{Judged, Refused}
+use Rattle.verdict.specs.Check.{houseChecked}
+use Rattle.cellprism.specs.Bytes.{wordsOf}
+
+-- question 2 outside: 65,536 bytes, which are the 8,192 words of a batch of one cycle
+unfoldable pub rowChecked : List ℕ → CheckAnswer
+rowChecked bytes = cond (eqb (length bytes) 65536) (houseChecked 1 (wordsOf 8192 bytes)) (Refused (no 2 0))
+
+-- kind 0, accepted: rows below; kind 1, failed: bit 29 the relation as in a mark, bits 8..0 the row
+abbrev pub verdictWord : Verdict → ℕ
+verdictWord (Accepted rows) = rows % 2 ^ 30
+verdictWord (Failed relation row rows) = 2 ^ 30 + flagWord relation * 2 ^ 29 + row % 2 ^ 9
+
+-- the kind in the top two bits; kind 2, refused: the number below
+abbrev pub answerWord : CheckAnswer → ℕ
+answerWord (Judged v) = verdictWord v
+answerWord (Refused r) = 2 * 2 ^ 30 + r .number

@@ -1,0 +1,60 @@
+-- Answers of the boundary. Its values on the bench sheet's rows follow from theirs, by `row-of-words`.
+-- Assumes nothing.
+use mathlib.Core.Path.{_≡_, refl, sym, ap, ap₂, _∙_}
+use mathlib.Core.Bool.{Bool, true, _&&_}
+use mathlib.Core.List.{List, [], _∷_, _++_}
+use Prim.Native.Nat.{ℕ, zero, suc, _+_, _*_, _/_, _%_, _^_, _<_}
+use native.Mathlib.Omega.{arith}
+use borrow.Author.Tests.{ltb-true, eq-eqb, ne-eqb}
+use lib.Dec.{ltb}
+use lib.ListN.{length}
+use Rattle.layout.specs.Questions.{passed, refused, both}
+use Rattle.verdict.specs.Check.{houseChecked}
+use Rattle.cellprism.specs.Bytes.{numberOf, wordsOf}
+use Rattle.cellprism.specs.Answer.{rowChecked, answerWord}
+
+-- ---- anything but 65,536 bytes is refused
+
+pub other-length : (bytes : List ℕ) → (length bytes ≡ 65536 → ⊥) → answerWord (rowChecked bytes) ≡ 0x80000002
+unfolding rowChecked
+other-length bytes h = ap answerWord (sym (refused _ _ _ (ne-eqb (length bytes) 65536 h)))
+
+pub one-byte-short : (bytes : List ℕ) → length bytes ≡ 65535 → answerWord (rowChecked bytes) ≡ 0x80000002
+one-byte-short bytes h = other-length bytes (λ e. omega arith)
+
+-- ---- every row of 8,192 words has its 65,536 bytes, and their answer is the row's
+
+-- the n lowest bytes of a number, and the bytes of words
+unfoldable pub spelled : ℕ → ℕ → List ℕ
+spelled zero w = []
+spelled (suc n) w = w % 256 ∷ spelled n (w / 256)
+
+unfoldable pub bytesOf : List ℕ → List ℕ
+bytesOf [] = []
+bytesOf (w ∷ ws) = spelled 8 w ++ bytesOf ws
+
+-- words of 64 bits
+unfoldable pub wordsFit : List ℕ → Bool
+wordsFit [] = true
+wordsFit (w ∷ ws) = ltb w (2 ^ 64) && wordsFit ws
+
+spelled-number : (w : ℕ) → w < 2 ^ 64 → numberOf (spelled 8 w) ≡ w
+unfolding numberOf spelled
+spelled-number w h = omega arith
+
+bytes-length : (ws : List ℕ) → length (bytesOf ws) ≡ 8 * length ws
+unfolding bytesOf spelled
+bytes-length [] = refl
+bytes-length (w ∷ ws) = omega (arith, bytes-length ws)
+
+pub words-back : (ws : List ℕ) → wordsFit ws ≡ true → wordsOf (length ws) (bytesOf ws) ≡ ws
+unfolding wordsOf bytesOf spelled wordsFit
+words-back [] h = refl
+words-back (w ∷ ws) h =
+    let b = both (ltb w (2 ^ 64)) (wordsFit ws) h in ap₂ (λ v vs. v ∷ vs) (spelled-number w (ltb-true w (2 ^ 64) (b .0))) (words-back ws (b .1))
+
+pub row-of-words : (ws : List ℕ) → wordsFit ws ≡ true → length ws ≡ 8192 → rowChecked (bytesOf ws) ≡ houseChecked 1 ws
+unfolding rowChecked
+row-of-words ws h e =
+    sym (passed _ _ _ (eq-eqb (length (bytesOf ws)) 65536 (bytes-length ws ∙ ap (λ n. 8 * n) e)))
+    ∙ ap (houseChecked 1) (ap (λ n. wordsOf n (bytesOf ws)) (sym e) ∙ words-back ws h)

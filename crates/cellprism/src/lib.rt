@@ -1,0 +1,66 @@
+// The C boundary of Cellprism: the check of one row, handed over as bytes and answered by one number.
+mod bytes;
+
+use circuit::Relation;
+use layout::Refusal;
+use verdict::CheckAnswer;
+use verdict::Verdict;
+ghost use mathlib.Core.Path.{_≡_};
+ghost use Prim.Native.Nat.{_≤_};
+ghost use Rattle.circuit.specs.Words.{flagWord};
+ghost use Rattle.cellprism.specs.Answer.{rowChecked, verdictWord, answerWord};
+
+// The relation as in a mark.
+fn relation_bit(relation: Relation) -> u32
+    ensures { λ r. ⌜ (r ≡ flagWord relation) × (r ≤ 1) ⌝ }
+{
+    match relation {
+        Relation::Bin => 0,
+        Relation::Fld => 1,
+    }
+}
+
+fn verdict_word(v: Verdict) -> u32
+    ensures { λ r. ⌜ r ≡ verdictWord v ⌝ }
+{
+    match v {
+        Verdict::Accepted { rows } => (rows % 0x40000000) as u32,
+        Verdict::Failed {
+            relation,
+            row,
+            rows: _,
+        } => 0x40000000 + relation_bit(relation) * 0x20000000 + (row % 512) as u32,
+    }
+}
+
+fn answer_word(answer: CheckAnswer) -> u32
+    ensures { λ r. ⌜ r ≡ answerWord answer ⌝ }
+{
+    match answer {
+        CheckAnswer::Judged(v) => verdict_word(v),
+        CheckAnswer::Refused(r) => 0x80000000 + r.number as u32,
+    }
+}
+
+// The check of one row against the house listing: question 2 is all there is to ask.
+pub fn check_bytes(bytes: &[u8]) -> CheckAnswer
+    ensures { λ r. ⌜ r ≡ rowChecked (now (bytes .entry)) ⌝ }
+{
+    if bytes.len() != 65536 {
+        return CheckAnswer::Refused(Refusal {
+            number: 2,
+            place: 0,
+        });
+    }
+    let mut words = [0u64; 8192];
+    bytes::read_words(bytes, &mut words);
+    verdict::check_house(1, &words)
+}
+
+// What the prover's host calls.
+#[no_mangle]
+pub extern "C" fn cellprism_check_row(bytes: &[u8]) -> u32
+    ensures { λ r. ⌜ r ≡ answerWord (rowChecked (now (bytes .entry))) ⌝ }
+{
+    answer_word(check_bytes(bytes))
+}

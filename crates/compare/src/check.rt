@@ -1,0 +1,152 @@
+// The check, a row's sums and the bit test.
+ghost use mathlib.Core.Path.{_≡_};
+ghost use mathlib.Core.List.{_++_};
+ghost use Prim.Native.Nat.{_<_, _≤_, _^_};
+ghost use lib.ListN.{length, drop};
+ghost use Rattle.verdict.specs.Check.{checked, houseChecked};
+ghost use Rattle.verdict.specs.Apply.{applied};
+ghost use Rattle.verdict.specs.Bits.{bitTested};
+ghost use Rattle.compare.specs.Numbers.{refusedAt, failedIn, verdictNumber, checkNumber, reply, checkReply, chosenRelation, sumWords, sumsReply, applyReply, bitNumber};
+use circuit::Relation;
+use layout::Refusal;
+use verdict::ApplyAnswer;
+use verdict::CheckAnswer;
+use verdict::Sums;
+use verdict::Verdict;
+use verdict::bits::BitAnswer;
+
+fn refused_at(r: Refusal) -> u64
+    ensures { λ n. ⌜ n ≡ refusedAt r ⌝ }
+{
+    0x8000000000000000 + r.number as u64 * 0x100000000 + r.place as u64 % 0x100000000
+}
+
+fn failed_in(relation: Relation) -> u64
+    ensures { λ n. ⌜ n ≡ failedIn relation ⌝ }
+{
+    match relation {
+        Relation::Bin => 0x4000000000000000,
+        Relation::Fld => 0x6000000000000000,
+    }
+}
+
+fn verdict_number(v: Verdict) -> u64
+    ensures { λ n. ⌜ n ≡ verdictNumber v ⌝ }
+{
+    match v {
+        Verdict::Accepted { rows } => rows as u64 % 0x20000000,
+        Verdict::Failed {
+            relation,
+            row,
+            rows,
+        } => {
+            failed_in(relation) + rows as u64 % 0x20000000 * 0x100000000 + row as u64 % 0x100000000
+        }
+    }
+}
+
+fn check_number(answer: CheckAnswer) -> u64
+    ensures { λ n. ⌜ n ≡ checkNumber answer ⌝ }
+{
+    match answer {
+        CheckAnswer::Judged(v) => verdict_number(v),
+        CheckAnswer::Refused(r) => refused_at(r),
+    }
+}
+
+#[no_mangle]
+pub extern "C" fn compare_check_row(
+    cpi: usize,
+    listing: &[u32],
+    batch: &[u64],
+    scratch: &mut [u64],
+) -> u64
+    ensures { λ r. ⌜ reply r (now (scratch .exit)) ≡ checkReply (checked cpi (now (listing .entry)) (now (batch .entry)) (now (scratch .entry))) ⌝ }
+{
+    check_number(verdict::check_row(cpi, listing, batch, scratch))
+}
+
+#[no_mangle]
+pub extern "C" fn compare_check_house(cpi: usize, batch: &[u64]) -> u64
+    ensures { λ r. ⌜ r ≡ checkNumber (houseChecked cpi (now (batch .entry))) ⌝ }
+{
+    check_number(verdict::check_house(cpi, batch))
+}
+
+fn chosen_relation(n: u32) -> Relation
+    ensures { λ r. ⌜ r ≡ chosenRelation n ⌝ }
+{
+    if n == 0 { Relation::Bin } else { Relation::Fld }
+}
+
+fn write_sums(s: Sums, out: &mut [u64])
+    requires { ⌜ 6 ≤ length (now out) ⌝ }
+    ensures { λ _. ⌜ now (out .exit) ≡ sumWords s ++ drop 6 (now (out .entry)) ⌝ }
+{
+    let a = s.a;
+    let b = s.b;
+    let c = s.c;
+    out[0] = a.low();
+    out[1] = a.high();
+    out[2] = b.low();
+    out[3] = b.high();
+    out[4] = c.low();
+    out[5] = c.high();
+}
+
+fn put_sums(answer: ApplyAnswer, out: &mut [u64]) -> u64
+    requires { ⌜ 6 ≤ length (now out) ⌝ }
+    ensures { λ r. ⌜ reply r (now (out .exit)) ≡ sumsReply answer (now (out .entry)) ⌝ }
+{
+    match answer {
+        ApplyAnswer::Of(s) => {
+            write_sums(s, out);
+            0
+        }
+        ApplyAnswer::Refused(r) => refused_at(r),
+    }
+}
+
+#[no_mangle]
+pub extern "C" fn compare_apply(
+    cpi: usize,
+    listing: &[u32],
+    batch: &[u64],
+    relation: u32,
+    row: usize,
+    cycle: usize,
+    out: &mut [u64],
+) -> u64
+    ensures { λ r. ⌜ reply r (now (out .exit)) ≡ applyReply (applied cpi (now (listing .entry)) (now (batch .entry)) (chosenRelation relation) row cycle) (now (out .entry)) ⌝ }
+{
+    if out.len() < 6 {
+        return 0x8000000000000000;
+    }
+    put_sums(
+        verdict::apply(cpi, listing, batch, chosen_relation(relation), row, cycle),
+        out,
+    )
+}
+
+fn bit_number(answer: BitAnswer) -> u64
+    requires { ⌜ bitNumber answer < 2 ^ 64 ⌝ }
+    ensures { λ n. ⌜ n ≡ bitNumber answer ⌝ }
+{
+    match answer {
+        BitAnswer::AllBits => 0,
+        BitAnswer::NotBit { at, column, cycle } => {
+            0x4000000000000000
+                + cycle as u64 * 0x1000000000000
+                + column as u64 * 0x100000000
+                + at as u64
+        }
+        BitAnswer::Refused(r) => refused_at(r),
+    }
+}
+
+#[no_mangle]
+pub extern "C" fn compare_bit_test(cpi: usize, batch: &[u64]) -> u64
+    ensures { λ r. ⌜ r ≡ bitNumber (bitTested cpi (now (batch .entry))) ⌝ }
+{
+    bit_number(verdict::bits::bit_test(cpi, batch))
+}
