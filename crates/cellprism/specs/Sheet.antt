@@ -1,15 +1,18 @@
--- Answers of the boundary. Its values on the bench sheet's rows follow from theirs, by `row-of-words`.
+-- Answers of the boundary: anything but 65,536 bytes is refused, and P4 and P5 of the bench sheet as bytes.
 -- Assumes nothing.
 use mathlib.Core.Path.{_≡_, refl, sym, ap, ap₂, _∙_}
 use mathlib.Core.Bool.{Bool, true, _&&_}
 use mathlib.Core.List.{List, [], _∷_, _++_}
 use Prim.Native.Nat.{ℕ, zero, suc, _+_, _*_, _/_, _%_, _^_, _<_}
 use native.Mathlib.Omega.{arith}
-use borrow.Author.Tests.{ltb-true, eq-eqb, ne-eqb}
-use lib.Dec.{ltb}
-use lib.ListN.{length}
+use borrow.Author.Tests.{ltb-true, lt-ltb, eq-eqb, ne-eqb}
+use lib.Dec.{ltb, lit<}
+use lib.ListN.{length, set, replicate, length-set, length-replicate}
 use Rattle.layout.specs.Questions.{passed, refused, both}
-use Rattle.verdict.specs.Check.{houseChecked}
+use Rattle.circuit.specs.Circuit.{circuitWords}
+use Rattle.verdict.specs.Check.{checked, houseChecked}
+use Rattle.verdict.specs.Sheet.{oneRow, p4, p5}
+use Rattle.verdict.specs.Agree.{house-agrees}
 use Rattle.cellprism.specs.Bytes.{numberOf, wordsOf}
 use Rattle.cellprism.specs.Answer.{rowChecked, answerWord}
 
@@ -58,3 +61,44 @@ unfolding rowChecked
 row-of-words ws h e =
     sym (passed _ _ _ (eq-eqb (length (bytesOf ws)) 65536 (bytes-length ws ∙ ap (λ n. 8 * n) e)))
     ∙ ap (houseChecked 1) (ap (λ n. wordsOf n (bytesOf ws)) (sym e) ∙ words-back ws h)
+
+-- ---- P4 and P5 over the boundary
+
+zero-words : (n : ℕ) → wordsFit (replicate n 0) ≡ true
+unfolding wordsFit
+zero-words zero = refl
+zero-words (suc n) = zero-words n
+
+zero-bytes : (n : ℕ) → bytesOf (replicate n 0) ≡ replicate (8 * n) 0
+unfolding bytesOf spelled
+zero-bytes zero = refl
+zero-bytes (suc n) = ap (λ bs. 0 ∷ 0 ∷ 0 ∷ 0 ∷ 0 ∷ 0 ∷ 0 ∷ 0 ∷ bs) (zero-bytes n) ∙ ap (λ (k : ℕ). replicate k 0) eight
+  where
+    eight : suc (suc (suc (suc (suc (suc (suc (suc (8 * n)))))))) ≡ 8 * suc n
+    eight = omega arith
+
+-- a row over the boundary, by the check's answer on its words
+answer-of : (ws scratch : List ℕ) → wordsFit ws ≡ true → length ws ≡ 8192 → length scratch ≡ 3072
+    → answerWord (rowChecked (bytesOf ws)) ≡ answerWord (checked 1 circuitWords ws scratch .answer)
+answer-of ws scratch f e s = ap answerWord (row-of-words ws f e ∙ house-agrees 1 ws scratch s)
+
+abbrev scratch : List ℕ
+scratch = replicate 3072 0
+
+pub p4-bytes : answerWord (rowChecked (replicate 65536 0)) ≡ 0x00000202
+p4-bytes =
+    ap (λ bs. answerWord (rowChecked bs)) (sym (zero-bytes 8192))
+    ∙ answer-of (replicate 8192 0) scratch (zero-words 8192) (length-replicate {A = ℕ} 8192 0) (length-replicate {A = ℕ} 3072 0)
+    ∙ ap (λ c. answerWord (c .answer)) (p4 scratch (length-replicate {A = ℕ} 3072 0))
+
+fit-set : (ws : List ℕ) (i w : ℕ) → w < 2 ^ 64 → wordsFit ws ≡ true → wordsFit (set ws i w) ≡ true
+unfolding wordsFit
+fit-set [] i w h f = refl
+fit-set (v ∷ ws) zero w h f = ap₂ _&&_ (lt-ltb w (2 ^ 64) h) (both (ltb v (2 ^ 64)) (wordsFit ws) f .1)
+fit-set (v ∷ ws) (suc i) w h f = let b = both (ltb v (2 ^ 64)) (wordsFit ws) f in ap₂ _&&_ (b .0) (fit-set ws i w h (b .1))
+
+pub p5-bytes : answerWord (rowChecked (bytesOf oneRow)) ≡ 0x40000107
+p5-bytes =
+    answer-of oneRow scratch (fit-set (replicate 8192 0) 4096 1 (lit< tt) (zero-words 8192))
+    (length-set {A = ℕ} (replicate 8192 0) 4096 1 ∙ length-replicate {A = ℕ} 8192 0) (length-replicate {A = ℕ} 3072 0)
+    ∙ ap (λ c. answerWord (c .answer)) (p5 scratch (length-replicate {A = ℕ} 3072 0))

@@ -11,3 +11,4 @@ pub mod Verdicts
 pub mod Depends
 pub mod OverBits
 pub mod Sheet
+pub mod Agree
