@@ -4,10 +4,10 @@ use mathlib.Core.Path.{_≡_, refl, sym, ap, _∙_}
 use mathlib.Core.List.{List, [], _∷_, _++_}
 use Prim.Native.Nat.{ℕ, zero, suc, _+_, _*_, _^_, _<_}
 use native.Mathlib.Omega.{arith}
-use native.Mathlib.Nat.{add-zero}
+use native.Mathlib.Nat.{zero-add, add-zero, suc-add, mul-assoc, pow-succ'}
 use native.Mathlib.Numerals.{add-one}
 use lib.ListN.{length, take, drop, getD, set}
-use lib.Seq.{getD-drop, drop-drop, take-all, take-suc-set}
+use lib.Seq.{getD-drop, drop-drop, take-nil, take-all, take-suc-set}
 use Rattle.cellprism.specs.Bytes.{numberOf, wordsOf}
 
 -- where a list ends, `getD` gives 0, and nothing is spelled
@@ -24,17 +24,19 @@ pub half-at : (bytes : List ℕ) (at : ℕ)
     ≡ getD bytes at 0 + 256 * (getD bytes (at + 1) 0 + 256 * (getD bytes (at + 2) 0 + 256 * getD bytes (at + 3) 0))
 half-at bytes at = four-bytes (drop at bytes) ∙ simp (getD-drop, add-zero)
 
-two-halves : (bs : List ℕ) → numberOf (take 8 bs) ≡ numberOf (take 4 bs) + 2 ^ 32 * numberOf (take 4 (drop 4 bs))
+-- m + n bytes are m bytes, and n behind them
+number-split : (m n : ℕ) (bs : List ℕ) → numberOf (take (m + n) bs) ≡ numberOf (take m bs) + 256 ^ m * numberOf (take n (drop m bs))
 unfolding numberOf
-two-halves [] = refl
-two-halves (a ∷ []) = omega arith
-two-halves (a ∷ b ∷ []) = omega arith
-two-halves (a ∷ b ∷ c ∷ []) = omega arith
-two-halves (a ∷ b ∷ c ∷ d ∷ bs) = omega arith
+number-split zero n bs = rw zero-add (omega arith)
+number-split (suc m) n [] = rw (take-nil, take-nil) (omega arith)
+number-split (suc m) n (b ∷ bs) =
+    let rest = number-split m n bs in
+    let higher = ap (λ p. p * numberOf (take n (drop m bs))) (pow-succ' 256 m) ∙ mul-assoc 256 (256 ^ m) (numberOf (take n (drop m bs))) in
+    rw (suc-add m n) (omega arith)
 
 pub word-at : (bytes : List ℕ) (at : ℕ)
     → numberOf (take 8 (drop at bytes)) ≡ numberOf (take 4 (drop at bytes)) + 2 ^ 32 * numberOf (take 4 (drop (at + 4) bytes))
-word-at bytes at = rw (← drop-drop 4 at bytes) (two-halves (drop at bytes))
+word-at bytes at = rw (← drop-drop 4 at bytes) (number-split 4 4 (drop at bytes))
 
 words-suc : (i : ℕ) (bytes : List ℕ) → wordsOf (suc i) bytes ≡ wordsOf i bytes ++ (numberOf (take 8 (drop (8 * i) bytes)) ∷ [])
 unfolding wordsOf

@@ -18,7 +18,8 @@ use Rattle.cellprism.specs.Bytes.{wordsOf}
 unfoldable pub rowChecked : List ℕ → CheckAnswer
 rowChecked bytes = cond (eqb (length bytes) 65536) (houseChecked 1 (wordsOf 8192 bytes)) (Refused (no 2 0))
 
--- kind 0, accepted: rows below; kind 1, failed: bit 29 the relation as in a mark, bits 8..0 the row
+-- kind 0, accepted: rows below; kind 1, failed: bit 29 the relation as in a mark, bits 8..0 the row. (The remainders are those of any
+-- verdict: of a row's they cut nothing off, by specs/Exact.antt.)
 abbrev pub verdictWord : Verdict → ℕ
 verdictWord (Accepted rows) = rows % 2 ^ 30
 verdictWord (Failed relation row rows) = 2 ^ 30 + flagWord relation * 2 ^ 29 + row % 2 ^ 9

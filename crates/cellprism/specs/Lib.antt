@@ -1,3 +1,5 @@
 pub mod Bytes
 pub mod Answer
+pub mod Exact
+pub mod Back
 pub mod Sheet

@@ -1,104 +1,78 @@
--- Answers of the boundary: anything but 65,536 bytes is refused, and P4 and P5 of the bench sheet as bytes.
+-- The boundary's answers: question 2, and the bench sheet's P4 and P5 in bytes.
 -- Assumes nothing.
-use mathlib.Core.Path.{_≡_, refl, sym, ap, ap₂, _∙_}
-use mathlib.Core.Bool.{Bool, true, _&&_}
-use mathlib.Core.List.{List, [], _∷_, _++_}
-use Prim.Native.Nat.{ℕ, zero, suc, _+_, _*_, _/_, _%_, _^_, _<_}
+use mathlib.Core.Path.{_≡_, refl, sym, ap, _∙_}
+use mathlib.Core.Bool.{true}
+use mathlib.Core.List.{List, _++_}
+use Prim.Native.Nat.{ℕ, zero, suc, _+_, _*_}
 use native.Mathlib.Omega.{arith}
-use borrow.Author.Tests.{ltb-true, lt-ltb, eq-eqb, ne-eqb}
-use lib.Dec.{ltb, lit<}
-use lib.ListN.{length, set, replicate, length-set, length-replicate}
-use Rattle.layout.specs.Questions.{passed, refused, both}
-use Rattle.circuit.specs.Circuit.{circuitWords}
-use Rattle.verdict.specs.Check.{checked, houseChecked}
-use Rattle.verdict.specs.Sheet.{oneRow, p4, p5}
-use Rattle.verdict.specs.Agree.{house-agrees}
-use Rattle.cellprism.specs.Bytes.{numberOf, wordsOf}
+use borrow.Author.Tests.{ne-eqb}
+use lib.ListN.{length, set, replicate, length-replicate, length-set, replicate-append-replicate}
+use Rattle.layout.specs.Questions.{no, refused}
+use Rattle.circuit.specs.declared.Relation.the-variants.{Bin}
+use Rattle.verdict.specs.declared.Verdict.the-variants.{Accepted, Failed}
+use Rattle.verdict.specs.declared.CheckAnswer.the-variants.{Judged, Refused}
+use Rattle.verdict.specs.Sheet.{zeros-accepted, oneRow, one-judged}
 use Rattle.cellprism.specs.Answer.{rowChecked, answerWord}
+use Rattle.cellprism.specs.Back.{spelled, bytesOf, wordsFit, row-judged}
 
--- ---- anything but 65,536 bytes is refused
+-- ---- question 2: anything but 65,536 bytes
 
-pub other-length : (bytes : List ℕ) → (length bytes ≡ 65536 → ⊥) → answerWord (rowChecked bytes) ≡ 0x80000002
+pub other-length : (bytes : List ℕ) → (length bytes ≡ 65536 → ⊥) → rowChecked bytes ≡ Refused (no 2 0)
 unfolding rowChecked
-other-length bytes h = ap answerWord (sym (refused _ _ _ (ne-eqb (length bytes) 65536 h)))
+other-length bytes h = sym (refused _ _ _ (ne-eqb (length bytes) 65536 h))
 
-pub one-byte-short : (bytes : List ℕ) → length bytes ≡ 65535 → answerWord (rowChecked bytes) ≡ 0x80000002
-one-byte-short bytes h = other-length bytes (λ e. omega arith)
+-- ---- P4: zero bytes
 
--- ---- every row of 8,192 words has its 65,536 bytes, and their answer is the row's
-
--- the n lowest bytes of a number, and the bytes of words
-unfoldable pub spelled : ℕ → ℕ → List ℕ
-spelled zero w = []
-spelled (suc n) w = w % 256 ∷ spelled n (w / 256)
-
-unfoldable pub bytesOf : List ℕ → List ℕ
-bytesOf [] = []
-bytesOf (w ∷ ws) = spelled 8 w ++ bytesOf ws
-
--- words of 64 bits
-unfoldable pub wordsFit : List ℕ → Bool
-wordsFit [] = true
-wordsFit (w ∷ ws) = ltb w (2 ^ 64) && wordsFit ws
-
-spelled-number : (w : ℕ) → w < 2 ^ 64 → numberOf (spelled 8 w) ≡ w
-unfolding numberOf spelled
-spelled-number w h = omega arith
-
-bytes-length : (ws : List ℕ) → length (bytesOf ws) ≡ 8 * length ws
-unfolding bytesOf spelled
-bytes-length [] = refl
-bytes-length (w ∷ ws) = omega (arith, bytes-length ws)
-
-pub words-back : (ws : List ℕ) → wordsFit ws ≡ true → wordsOf (length ws) (bytesOf ws) ≡ ws
-unfolding wordsOf bytesOf spelled wordsFit
-words-back [] h = refl
-words-back (w ∷ ws) h =
-    let b = both (ltb w (2 ^ 64)) (wordsFit ws) h in ap₂ (λ v vs. v ∷ vs) (spelled-number w (ltb-true w (2 ^ 64) (b .0))) (words-back ws (b .1))
-
-pub row-of-words : (ws : List ℕ) → wordsFit ws ≡ true → length ws ≡ 8192 → rowChecked (bytesOf ws) ≡ houseChecked 1 ws
-unfolding rowChecked
-row-of-words ws h e =
-    sym (passed _ _ _ (eq-eqb (length (bytesOf ws)) 65536 (bytes-length ws ∙ ap (λ n. 8 * n) e)))
-    ∙ ap (houseChecked 1) (ap (λ n. wordsOf n (bytesOf ws)) (sym e) ∙ words-back ws h)
-
--- ---- P4 and P5 over the boundary
-
-zero-words : (n : ℕ) → wordsFit (replicate n 0) ≡ true
+zeros-fit : (n : ℕ) → wordsFit (replicate n 0) ≡ true
 unfolding wordsFit
-zero-words zero = refl
-zero-words (suc n) = zero-words n
+zeros-fit zero = refl
+zeros-fit (suc n) = zeros-fit n
 
-zero-bytes : (n : ℕ) → bytesOf (replicate n 0) ≡ replicate (8 * n) 0
+bytes-of-zeros : (n : ℕ) → bytesOf (replicate n 0) ≡ replicate (8 * n) 0
 unfolding bytesOf spelled
-zero-bytes zero = refl
-zero-bytes (suc n) = ap (λ bs. 0 ∷ 0 ∷ 0 ∷ 0 ∷ 0 ∷ 0 ∷ 0 ∷ 0 ∷ bs) (zero-bytes n) ∙ ap (λ (k : ℕ). replicate k 0) eight
-  where
-    eight : suc (suc (suc (suc (suc (suc (suc (suc (8 * n)))))))) ≡ 8 * suc n
-    eight = omega arith
+bytes-of-zeros zero = refl
+bytes-of-zeros (suc n) =
+    let e : 8 + 8 * n ≡ 8 * suc n = omega arith in
+    ap (λ bs. replicate 8 0 ++ bs) (bytes-of-zeros n) ∙ replicate-append-replicate 8 (8 * n) 0 ∙ ap (λ k. replicate k 0) e
 
--- a row over the boundary, by the check's answer on its words
-answer-of : (ws scratch : List ℕ) → wordsFit ws ≡ true → length ws ≡ 8192 → length scratch ≡ 3072
-    → answerWord (rowChecked (bytesOf ws)) ≡ answerWord (checked 1 circuitWords ws scratch .answer)
-answer-of ws scratch f e s = ap answerWord (row-of-words ws f e ∙ house-agrees 1 ws scratch s)
+pub zero-bytes : rowChecked (replicate 65536 0) ≡ Judged (Accepted 514)
+zero-bytes =
+    ap rowChecked (sym (bytes-of-zeros 8192)) ∙ row-judged (replicate 8192 0) (zeros-fit 8192) (length-replicate {A = ℕ} 8192 0)
+    ∙ ap Judged (zeros-accepted 1 8192)
 
-abbrev scratch : List ℕ
-scratch = replicate 3072 0
+-- ---- P5: only the one column 1, whose lowest byte is byte 16 * 2048
 
-pub p4-bytes : answerWord (rowChecked (replicate 65536 0)) ≡ 0x00000202
-p4-bytes =
-    ap (λ bs. answerWord (rowChecked bs)) (sym (zero-bytes 8192))
-    ∙ answer-of (replicate 8192 0) scratch (zero-words 8192) (length-replicate {A = ℕ} 8192 0) (length-replicate {A = ℕ} 3072 0)
-    ∙ ap (λ c. answerWord (c .answer)) (p4 scratch (length-replicate {A = ℕ} 3072 0))
-
-fit-set : (ws : List ℕ) (i w : ℕ) → w < 2 ^ 64 → wordsFit ws ≡ true → wordsFit (set ws i w) ≡ true
+one-fits : (n i : ℕ) → wordsFit (set (replicate n 0) i 1) ≡ true
 unfolding wordsFit
-fit-set [] i w h f = refl
-fit-set (v ∷ ws) zero w h f = ap₂ _&&_ (lt-ltb w (2 ^ 64) h) (both (ltb v (2 ^ 64)) (wordsFit ws) f .1)
-fit-set (v ∷ ws) (suc i) w h f = let b = both (ltb v (2 ^ 64)) (wordsFit ws) f in ap₂ _&&_ (b .0) (fit-set ws i w h (b .1))
+one-fits zero i = refl
+one-fits (suc n) zero = zeros-fit n
+one-fits (suc n) (suc i) = one-fits n i
 
-pub p5-bytes : answerWord (rowChecked (bytesOf oneRow)) ≡ 0x40000107
-p5-bytes =
-    answer-of oneRow scratch (fit-set (replicate 8192 0) 4096 1 (lit< tt) (zero-words 8192))
-    (length-set {A = ℕ} (replicate 8192 0) 4096 1 ∙ length-replicate {A = ℕ} 8192 0) (length-replicate {A = ℕ} 3072 0)
-    ∙ ap (λ c. answerWord (c .answer)) (p5 scratch (length-replicate {A = ℕ} 3072 0))
+bytes-of-one : (n i : ℕ) → bytesOf (set (replicate n 0) i 1) ≡ set (bytesOf (replicate n 0)) (8 * i) 1
+unfolding bytesOf spelled
+bytes-of-one zero i = refl
+bytes-of-one (suc n) zero = refl
+bytes-of-one (suc n) (suc i) =
+    let e : suc (suc (suc (suc (suc (suc (suc (suc (8 * i)))))))) ≡ 8 * suc i = omega arith in
+    ap (λ bs. replicate 8 0 ++ bs) (bytes-of-one n i) ∙ ap (λ k. set (replicate 8 0 ++ bytesOf (replicate n 0)) k 1) e
+
+pub one-column : rowChecked (set (replicate 65536 0) 32768 1) ≡ Judged (Failed Bin 263 264)
+one-column =
+    ap (λ bytes. rowChecked (set bytes 32768 1)) (sym (bytes-of-zeros 8192)) ∙ ap rowChecked (sym (bytes-of-one 8192 4096))
+    ∙ row-judged oneRow (one-fits 8192 4096) (length-set {A = ℕ} (replicate 8192 0) 4096 1 ∙ length-replicate {A = ℕ} 8192 0)
+    ∙ ap Judged one-judged
+
+-- ---- the words of these answers
+
+pub record Answers : Type 0 where
+  pub short : (bytes : List ℕ) → length bytes ≡ 65535 → answerWord (rowChecked bytes) ≡ 0x80000002
+  pub zeros : answerWord (rowChecked (replicate 65536 0)) ≡ 0x00000202
+  pub one : answerWord (rowChecked (set (replicate 65536 0) 32768 1)) ≡ 0x40000107
+
+pub answers : Answers
+answers =
+    record {
+      short = λ bytes h. ap answerWord (other-length bytes (λ e. omega arith));
+      zeros = ap answerWord zero-bytes;
+      one = ap answerWord one-column;
+    }

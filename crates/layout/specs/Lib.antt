@@ -1,3 +1,4 @@
+pub mod Ascii
 pub mod Columns
 pub mod Segments
 pub mod Questions

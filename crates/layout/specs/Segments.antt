@@ -6,6 +6,7 @@ use mathlib.Core.List.{List, [], _∷_, _++_, map}
 use Prim.Native.Nat.{ℕ, _+_, _-_}
 use lib.Dec.{leb}
 use lib.ListN.{length, replicate}
+use Rattle.layout.specs.Ascii.{ascii}
 use Rattle.layout.specs.Columns.{W-COLS, RS1, RS2, RD, LOAD-VAL, SHIFT-OUT, T1, T2, CARRY-OFF, ALU, SHIFT-SRC, STORE-OLD, STORE-SRC, FLAGS, OFF, RAM-ADDR, PC, FETCH, EQA, ZERO}
 
 -- a name, in bytes of ASCII; the column of its first bit; how many columns it has
@@ -17,28 +18,28 @@ pub record Segment : Type 0 where
 abbrev pub segment : List ℕ → ℕ → ℕ → Segment
 segment n s l = record { name = n; start = s; length = l }
 
--- in the order of `SEGMENTS_CPU`; the name stands in letters behind each
+-- in the order of `SEGMENTS_CPU`
 unfoldable pub segments : List Segment
 segments =
-    segment (0x72 ∷ 0x73 ∷ 0x31 ∷ []) RS1 64  -- rs1
-    ∷ segment (0x72 ∷ 0x73 ∷ 0x32 ∷ []) RS2 64  -- rs2
-    ∷ segment (0x72 ∷ 0x64 ∷ []) RD 64  -- rd
-    ∷ segment (0x6c ∷ 0x6f ∷ 0x61 ∷ 0x64 ∷ 0x2d ∷ 0x76 ∷ 0x61 ∷ 0x6c ∷ []) LOAD-VAL 64  -- load-val
-    ∷ segment (0x73 ∷ 0x68 ∷ 0x69 ∷ 0x66 ∷ 0x74 ∷ 0x2d ∷ 0x6f ∷ 0x75 ∷ 0x74 ∷ []) SHIFT-OUT 64  -- shift-out
-    ∷ segment (0x74 ∷ 0x31 ∷ []) T1 64  -- t1
-    ∷ segment (0x74 ∷ 0x32 ∷ []) T2 64  -- t2
-    ∷ segment (0x63 ∷ 0x61 ∷ 0x72 ∷ 0x72 ∷ 0x79 ∷ []) CARRY-OFF 64  -- carry
-    ∷ segment (0x61 ∷ 0x6c ∷ 0x75 ∷ []) ALU 64  -- alu
-    ∷ segment (0x73 ∷ 0x68 ∷ 0x69 ∷ 0x66 ∷ 0x74 ∷ 0x2d ∷ 0x73 ∷ 0x72 ∷ 0x63 ∷ []) SHIFT-SRC 64  -- shift-src
-    ∷ segment (0x73 ∷ 0x74 ∷ 0x6f ∷ 0x72 ∷ 0x65 ∷ 0x2d ∷ 0x6f ∷ 0x6c ∷ 0x64 ∷ []) STORE-OLD 64  -- store-old
-    ∷ segment (0x73 ∷ 0x74 ∷ 0x6f ∷ 0x72 ∷ 0x65 ∷ 0x2d ∷ 0x73 ∷ 0x72 ∷ 0x63 ∷ []) STORE-SRC 64  -- store-src
-    ∷ segment (0x66 ∷ 0x6c ∷ 0x61 ∷ 0x67 ∷ 0x73 ∷ []) FLAGS 16  -- flags
-    ∷ segment (0x6f ∷ 0x66 ∷ 0x66 ∷ []) OFF 8  -- off
-    ∷ segment (0x72 ∷ 0x61 ∷ 0x6d ∷ 0x2d ∷ 0x61 ∷ 0x64 ∷ 0x64 ∷ 0x72 ∷ []) RAM-ADDR 8  -- ram-addr
-    ∷ segment (0x70 ∷ 0x63 ∷ []) PC 8  -- pc
-    ∷ segment (0x66 ∷ 0x65 ∷ 0x74 ∷ 0x63 ∷ 0x68 ∷ []) FETCH 64  -- fetch
-    ∷ segment (0x65 ∷ 0x71 ∷ 0x61 ∷ 0x75 ∷ 0x78 ∷ []) EQA 64  -- eqaux
-    ∷ segment (0x63 ∷ 0x72 ∷ 0x6f ∷ 0x73 ∷ 0x73 ∷ 0x61 ∷ 0x75 ∷ 0x78 ∷ []) ZERO 1024  -- crossaux
+    segment (ascii "rs1") RS1 64
+    ∷ segment (ascii "rs2") RS2 64
+    ∷ segment (ascii "rd") RD 64
+    ∷ segment (ascii "load-val") LOAD-VAL 64
+    ∷ segment (ascii "shift-out") SHIFT-OUT 64
+    ∷ segment (ascii "t1") T1 64
+    ∷ segment (ascii "t2") T2 64
+    ∷ segment (ascii "carry") CARRY-OFF 64
+    ∷ segment (ascii "alu") ALU 64
+    ∷ segment (ascii "shift-src") SHIFT-SRC 64
+    ∷ segment (ascii "store-old") STORE-OLD 64
+    ∷ segment (ascii "store-src") STORE-SRC 64
+    ∷ segment (ascii "flags") FLAGS 16
+    ∷ segment (ascii "off") OFF 8
+    ∷ segment (ascii "ram-addr") RAM-ADDR 8
+    ∷ segment (ascii "pc") PC 8
+    ∷ segment (ascii "fetch") FETCH 64
+    ∷ segment (ascii "eqaux") EQA 64
+    ∷ segment (ascii "crossaux") ZERO 1024
     ∷ []
 
 -- a name filled up with blanks to 9 bytes, the longest

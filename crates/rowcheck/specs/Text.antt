@@ -5,19 +5,15 @@ use mathlib.Core.Bool.{cond}
 use mathlib.Core.List.{List, [], _∷_, _++_}
 use Prim.Native.Char.{code}
 use Prim.Native.Nat.{ℕ, zero, suc, _+_, _/_, _%_}
-use Prim.Native.String.{String, [] as end, _∷_ as _then_}
 use lib.Dec.{ltb}
 use lib.ListN.{length, take, drop}
+use Rattle.layout.specs.Ascii.{ascii}
 use Rattle.circuit.specs.declared.Relation.{Relation}
 use Rattle.circuit.specs.declared.Relation.the-variants.{Bin, Fld}
 use Rattle.verdict.specs.declared.Verdict.{Verdict}
 use Rattle.verdict.specs.declared.Verdict.the-variants.{Accepted, Failed}
 use Rattle.verdict.specs.declared.CheckAnswer.{CheckAnswer}
 use Rattle.verdict.specs.declared.CheckAnswer.the-variants.{Judged, Refused}
-
-abbrev pub ascii : String → List ℕ
-ascii end = []
-ascii (c then s) = code c ∷ ascii s
 
 abbrev pub digit : ℕ → ℕ
 digit d = code "0" + d

@@ -162,7 +162,7 @@ bins-run : run overBits 0 bins ≡ Failed Bin 263 264
 unfolding run sumBits bins ofRelation circuitRows binFamilies fldFamilies from fromEach joined numbered
 bins-run = refl
 
-one-judged : judged 1 circuitWords oneRow ≡ Failed Bin 263 264
+pub one-judged : judged 1 circuitWords oneRow ≡ Failed Bin 263 264
 unfolding judged constraints bins
 one-judged =
     ap (λ (rs : List Row). run (met (cycleOf 1 oneRow)) 0 (constraints 1 rs)) words-read
