@@ -1,0 +1,43 @@
+-- The step conditions, the filling and demand 3. What a reader must believe is in these:
+--     Words           a cycle's columns as bits, and words of them
+--     Step            the ten step conditions
+--     Branch          the ISA's branch condition
+--     Derived         which columns are derived, and how many
+--     Solve           rows solved in turn, each for one column
+--     Determining     the rows that are solved, and with them the filling of one cycle: `filledBits`
+--     Filling         fillings of a batch, their count, and the filler's: `filled`
+--     Demand3         the statement, clause by clause
+-- and the theorems are `demand3` of Proved, `filler-alone` of Alone and `all-fillings` of Count. The way there, from the ground up:
+-- words of any width (Cases, Numbers, Adder, Compare, Chain); Theorem U (Solvable, Unique, Determining); Theorem C (Families, Determined,
+-- Conditions, Taken, Given); from the field to bits (BinRows, FieldSums, FieldRows, Cycle); the batch (Placed, Count, Batch); the check (Listings,
+-- Proved).
+pub mod Words
+pub mod Cases
+pub mod Numbers
+pub mod Adder
+pub mod Compare
+pub mod Chain
+pub mod Branch
+pub mod Step
+pub mod Derived
+pub mod Solve
+pub mod Solvable
+pub mod Unique
+pub mod Families
+pub mod Determining
+pub mod Determined
+pub mod Conditions
+pub mod Taken
+pub mod Given
+pub mod BinRows
+pub mod FieldSums
+pub mod FieldRows
+pub mod Cycle
+pub mod Filling
+pub mod Placed
+pub mod Count
+pub mod Demand3
+pub mod Batch
+pub mod Alone
+pub mod Listings
+pub mod Proved

@@ -1,0 +1,1 @@
+// The step conditions and the filling: so far their theory, in specs/.
