@@ -1,0 +1,38 @@
+//! Holds the proved library against the original, compiled unchanged.
+//!
+//! Prints a line for each named test and, last, `N passed, M failed`. The exit status is 0 where
+//! all passed, 1 where one failed, and 3 where the processor cannot run the original.
+#![forbid(unsafe_code)]
+
+mod batch;
+mod columns;
+mod field;
+mod house;
+mod layout;
+mod listing;
+mod numbers;
+mod original;
+mod parallel;
+mod report;
+mod verdict;
+
+use std::process::ExitCode;
+
+fn main() -> ExitCode {
+    if let Some(lacking) = original::processor_lacks() {
+        println!("not run: {lacking}");
+        return ExitCode::from(3);
+    }
+    println!(
+        "processor: PCLMULQDQ and SSE4.1 are there; without them the original's product is wrong"
+    );
+    println!("pseudo-random numbers from seed {:#x}", numbers::SEED);
+    println!("batches to be judged: {}", verdict::batches_judged());
+    let mut tests = field::tests();
+    tests.extend(columns::tests());
+    tests.extend(layout::tests());
+    tests.extend(listing::tests());
+    tests.extend(batch::tests());
+    tests.extend(verdict::tests());
+    report::run_all(&tests)
+}

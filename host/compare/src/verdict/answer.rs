@@ -1,0 +1,79 @@
+//! The numbers that the check, the sums and the bit test answer with, as the boundary writes them.
+
+use crate::house::Relation;
+
+const FAILED: u64 = 1 << 62;
+const REFUSED: u64 = 1 << 63;
+
+/// The numbers of document 01's questions, in the order in which they are asked.
+pub const SIZE: u64 = 1;
+pub const BATCH_LENGTH: u64 = 2;
+pub const SCRATCH_LENGTH: u64 = 5;
+pub const LISTING_LENGTH: u64 = 6;
+pub const MUST_BE_ZERO: u64 = 7;
+pub const NO_MARK: u64 = 8;
+pub const MARK_ORDER: u64 = 9;
+pub const TERM_ORDER: u64 = 10;
+pub const ROW_SOUGHT: u64 = 13;
+pub const CYCLE: u64 = 15;
+
+/// Which rows were tested and what came of it.
+#[derive(Clone, Copy, Debug, PartialEq, Eq)]
+pub enum Verdict {
+    Accepted {
+        rows: usize,
+    },
+    Failed {
+        relation: Relation,
+        batch_row: usize,
+        rows: usize,
+    },
+}
+
+impl Verdict {
+    pub fn number(self) -> u64 {
+        match self {
+            Verdict::Accepted { rows } => rows as u64,
+            Verdict::Failed {
+                relation,
+                batch_row,
+                rows,
+            } => FAILED | (relation as u64) << 61 | (rows as u64) << 32 | batch_row as u64,
+        }
+    }
+
+    /// The relation that does not hold, which is all that the original says.
+    pub fn relation(self) -> Option<Relation> {
+        match self {
+            Verdict::Accepted { .. } => None,
+            Verdict::Failed { relation, .. } => Some(relation),
+        }
+    }
+}
+
+/// A question answered with no, and where.
+#[derive(Clone, Copy, Debug, PartialEq, Eq)]
+pub struct Refusal {
+    pub number: u64,
+    pub place: usize,
+}
+
+impl Refusal {
+    pub fn answer(self) -> u64 {
+        REFUSED | self.number << 32 | self.place as u64
+    }
+}
+
+/// A refusal whose place is 0.
+pub fn refusal(number: u64) -> Refusal {
+    Refusal { number, place: 0 }
+}
+
+/// The answer of `apply` where `out` has no room; the paper has no number for it.
+pub const NO_ROOM: u64 = REFUSED;
+
+/// The bit test's answer for a column above 1.
+pub fn above_one(cpi: usize, batch_column: usize) -> u64 {
+    let (column, cycle) = (batch_column / cpi, batch_column % cpi);
+    FAILED | (cycle as u64) << 48 | (column as u64) << 32 | batch_column as u64
+}

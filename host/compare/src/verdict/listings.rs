@@ -1,0 +1,276 @@
+//! Listings as rows, and their two other forms: words for the product, matrices for the original.
+
+use std::array::from_fn;
+
+use super::batches::{COLUMNS, ONE_COLUMN};
+use crate::house::{Coefficient, Relation, Term};
+use crate::listing;
+use crate::numbers::Numbers;
+use crate::original::{self, CircuitSpec, Gf128, SparseMatrix};
+
+/// The most words that question 6 lets pass.
+pub const MOST_WORDS: usize = 16_384;
+
+/// Marks there can be: 512 of bin and 32 of fld.
+pub const MARKS: usize = 544;
+
+/// A mark and the terms of its three sides.
+pub struct Row {
+    pub relation: Relation,
+    pub row: usize,
+    pub sides: [Vec<Term>; 3],
+}
+
+pub struct Listing {
+    pub rows: Vec<Row>,
+}
+
+impl Listing {
+    /// The listing of the original's circuit.
+    pub fn of_circuit() -> Listing {
+        let spec = original::build_circuit();
+        let rows = |relation: Relation| (0..relation.padded_rows()).map(move |row| (relation, row));
+        let rows = rows(Relation::Bin)
+            .chain(rows(Relation::Fld))
+            .map(|(relation, row)| row_of(&spec, relation, row))
+            // Every row of the circuit has terms; what has none is padding.
+            .filter(|row| row.sides.iter().any(|terms| !terms.is_empty()))
+            .collect();
+        Listing { rows }
+    }
+
+    pub fn words(&self) -> Vec<u32> {
+        let mut words = Vec::new();
+        for row in &self.rows {
+            words.push(mark_word(row.relation, row.row));
+            for (side, terms) in (0..).zip(&row.sides) {
+                words.extend(terms.iter().map(|term| term_word(side, *term)));
+            }
+        }
+        words
+    }
+
+    pub fn marks(&self) -> Vec<(Relation, usize)> {
+        let mark = |row: &Row| (row.relation, row.row);
+        self.rows.iter().map(mark).collect()
+    }
+
+    /// The matrices of a batch: rows padded as the original pads them, columns by its own map.
+    pub fn spec(&self, cpi: usize) -> CircuitSpec {
+        let geometry = original::geometry(cpi);
+        let [a_bin, b_bin, c_bin] = from_fn(|side| self.matrix(Relation::Bin, side, cpi));
+        let [a_fld, b_fld, c_fld] = from_fn(|side| self.matrix(Relation::Fld, side, cpi));
+        CircuitSpec {
+            a_bin,
+            b_bin,
+            c_bin,
+            a_fld,
+            b_fld,
+            c_fld,
+            m: geometry.m,
+            cpi,
+        }
+    }
+
+    fn matrix(&self, relation: Relation, side: usize, cpi: usize) -> SparseMatrix {
+        let geometry = original::geometry(cpi);
+        let rows = relation.padded_rows();
+        let mut matrix = SparseMatrix::empty(rows * cpi, geometry.m);
+        for cycle in 0..cpi {
+            for row in self.rows.iter().filter(|row| row.relation == relation) {
+                let entry = |term: &Term| {
+                    let column = geometry.map_z_col(term.column, cycle);
+                    let value = Gf128(term.coefficient.value());
+                    (rows * cycle + row.row, column, value)
+                };
+                matrix.entries.extend(row.sides[side].iter().map(entry));
+            }
+        }
+        matrix
+    }
+}
+
+fn row_of(spec: &CircuitSpec, relation: Relation, row: usize) -> Row {
+    let sides = listing::sides(spec, relation).map(|matrix| {
+        let entries = matrix.entries.iter().filter(|entry| entry.0 == row);
+        entries
+            .map(|&(_, column, value)| Term {
+                column,
+                coefficient: coefficient_of(value.0),
+            })
+            .collect()
+    });
+    Row {
+        relation,
+        row,
+        sides,
+    }
+}
+
+fn coefficient_of(value: u128) -> Coefficient {
+    if value == 0 {
+        return Coefficient::Zero;
+    }
+    assert!(
+        value.is_power_of_two(),
+        "the original's coefficient {value:#x}"
+    );
+    Coefficient::Power(value.trailing_zeros())
+}
+
+pub fn mark_word(relation: Relation, row: usize) -> u32 {
+    3 << 30 | (relation as u32) << 29 | row as u32
+}
+
+/// Side 0 is A, 1 B, 2 C.
+pub fn term_word(side: u32, term: Term) -> u32 {
+    let coefficient = match term.coefficient {
+        Coefficient::Zero => 1 << 29,
+        Coefficient::Power(k) => k << 12,
+    };
+    side << 30 | coefficient | term.column as u32
+}
+
+/// How long a random listing is.
+#[derive(Clone, Copy)]
+pub struct Shape {
+    pub marks: usize,
+    pub terms_of_a_side: u64,
+}
+
+pub fn shape(numbers: &mut Numbers) -> Shape {
+    let marks = [0, 1, 2, 5, 20, 100, MARKS][numbers.below(7) as usize];
+    let terms_of_a_side = [0, 1, 3, 8][numbers.below(4) as usize];
+    Shape {
+        marks,
+        terms_of_a_side,
+    }
+}
+
+/// Any rows with any terms.
+pub fn random(numbers: &mut Numbers, shape: Shape) -> Listing {
+    let row = |numbers: &mut Numbers| from_fn(|_| terms(numbers, shape.terms_of_a_side));
+    rows_with(numbers, shape.marks, row)
+}
+
+/// Rows that hold on any batch whose columns `ones` are 1 in every cycle, whatever else it holds.
+pub fn holding(numbers: &mut Numbers, shape: Shape, ones: &[usize]) -> Listing {
+    let row = |numbers: &mut Numbers| holding_sides(numbers, shape.terms_of_a_side, ones);
+    rows_with(numbers, shape.marks, row)
+}
+
+/// Adds one term to one row, anywhere: it mostly does not hold any more.
+pub fn spoil(numbers: &mut Numbers, listing: &mut Listing) {
+    if listing.rows.is_empty() {
+        return;
+    }
+    let row = numbers.below(listing.rows.len() as u64) as usize;
+    let side = numbers.below(3) as usize;
+    let term = term(numbers);
+    listing.rows[row].sides[side].push(term);
+}
+
+fn rows_with(
+    numbers: &mut Numbers,
+    marks: usize,
+    mut sides: impl FnMut(&mut Numbers) -> [Vec<Term>; 3],
+) -> Listing {
+    let rows = some_marks(numbers, marks)
+        .into_iter()
+        .map(|(relation, row)| Row {
+            relation,
+            row,
+            sides: sides(numbers),
+        })
+        .collect();
+    Listing { rows }
+}
+
+/// `count` of the marks there can be, in order.
+fn some_marks(numbers: &mut Numbers, count: usize) -> Vec<(Relation, usize)> {
+    let mut marks: Vec<usize> = (0..MARKS).collect();
+    // The first `count` of a shuffle.
+    for i in 0..count {
+        let j = i + numbers.below((MARKS - i) as u64) as usize;
+        marks.swap(i, j);
+    }
+    marks.truncate(count);
+    marks.sort_unstable();
+    marks.into_iter().map(mark).collect()
+}
+
+fn mark(index: usize) -> (Relation, usize) {
+    match index.checked_sub(512) {
+        None => (Relation::Bin, index),
+        Some(row) => (Relation::Fld, row),
+    }
+}
+
+fn terms(numbers: &mut Numbers, most: u64) -> Vec<Term> {
+    let count = numbers.below(most + 1);
+    (0..count).map(|_| term(numbers)).collect()
+}
+
+fn term(numbers: &mut Numbers) -> Term {
+    let coefficient = match numbers.below(8) {
+        0 => Coefficient::Zero,
+        1 => Coefficient::Power(63),
+        2 | 3 => Coefficient::Power(0),
+        _ => Coefficient::Power(numbers.below(64) as u32),
+    };
+    let edges = [0, ONE_COLUMN - 1, ONE_COLUMN, ONE_COLUMN + 1, COLUMNS - 1];
+    let column = match numbers.below(16) {
+        at @ 0..=4 => edges[at as usize],
+        _ => numbers.below(COLUMNS as u64) as usize,
+    };
+    Term {
+        column,
+        coefficient,
+    }
+}
+
+/// Three sides with A·B = C: by a factor that is a power of two, or because a side is zero.
+fn holding_sides(numbers: &mut Numbers, most: u64, ones: &[usize]) -> [Vec<Term>; 3] {
+    let side = terms(numbers, most);
+    let one = ones[numbers.below(ones.len() as u64) as usize];
+    match numbers.below(5) {
+        0 => [side, vec![], vec![]],
+        1 => [vec![], side, vec![]],
+        2 => [side, doubled(terms(numbers, most)), vec![]],
+        kind => {
+            let (k, product) = times_power(numbers, &side);
+            let factor = vec![Term {
+                column: one,
+                coefficient: Coefficient::Power(k),
+            }];
+            if kind == 3 {
+                [side, factor, product]
+            } else {
+                [factor, side, product]
+            }
+        }
+    }
+}
+
+/// Every term twice: the sum is zero.
+fn doubled(terms: Vec<Term>) -> Vec<Term> {
+    terms.iter().chain(&terms).copied().collect()
+}
+
+/// A factor 2^k that leaves every exponent below 64, and the terms times it.
+fn times_power(numbers: &mut Numbers, terms: &[Term]) -> (u32, Vec<Term>) {
+    let exponent = |term: &Term| match term.coefficient {
+        Coefficient::Zero => 0,
+        Coefficient::Power(k) => k,
+    };
+    let largest = terms.iter().map(exponent).max().unwrap_or(0);
+    let k = numbers.below(u64::from(64 - largest)) as u32;
+    let times = |term: &Term| Term {
+        column: term.column,
+        coefficient: match term.coefficient {
+            Coefficient::Zero => Coefficient::Zero,
+            Coefficient::Power(exponent) => Coefficient::Power(exponent + k),
+        },
+    };
+    (k, terms.iter().map(times).collect())
+}

@@ -1,0 +1,34 @@
+//! The check, the sums of a row and the bit test.
+
+mod answer;
+mod any_listing;
+mod batches;
+mod bits;
+mod boundary;
+mod circuit;
+mod constraints;
+mod each_row;
+mod instructions;
+mod judge;
+mod lent;
+mod listings;
+mod programs;
+mod refusals;
+mod sums;
+
+use crate::report::Test;
+
+pub fn tests() -> Vec<Test> {
+    let mut tests = circuit::tests();
+    tests.extend(each_row::tests());
+    tests.extend(any_listing::tests());
+    tests.extend(refusals::tests());
+    tests.extend(sums::tests());
+    tests.extend(bits::tests());
+    tests
+}
+
+/// Batches on which the product's verdict is held against the original's.
+pub fn batches_judged() -> usize {
+    circuit::batches_judged() + each_row::batches_judged() + any_listing::batches_judged()
+}

@@ -1,0 +1,204 @@
+//! The proved library as Rust sees it: one safe function for each C function.
+//!
+//! The C functions take numbers and lent slices (pointer, then length), return numbers, and are
+//! proved total and in bounds, so a call has nothing that its caller could get wrong. This is the
+//! one crate of the workspace with `unsafe` in it.
+
+/// A value, or the number of the question that was answered with no.
+pub type Answer = Result<u64, u64>;
+
+mod c {
+    extern "C" {
+        pub fn compare_add(a_lo: u64, a_hi: u64, b_lo: u64, b_hi: u64, word: u32) -> u64;
+        pub fn compare_mul(a_lo: u64, a_hi: u64, b_lo: u64, b_hi: u64, word: u32) -> u64;
+        pub fn compare_shl(lo: u64, hi: u64, k: u32, word: u32) -> u64;
+        pub fn compare_times_power(lo: u64, hi: u64, k: u32, word: u32) -> u64;
+        pub fn compare_geometry(cpi: usize, part: u32) -> u64;
+        pub fn compare_map_col(cpi: usize, column: usize, cycle: usize) -> u64;
+        pub fn compare_map_z_col(cpi: usize, column: usize, cycle: usize) -> u64;
+        pub fn compare_way_back(cpi: usize, batch_column: usize, part: u32) -> u64;
+        pub fn compare_listing_word(i: usize) -> u32;
+        pub fn compare_batched(cpi: usize, cycle: usize, word: u32) -> u64;
+        pub fn compare_layout(i: usize) -> u64;
+        pub fn compare_segment(i: usize, part: u32) -> u64;
+        pub fn compare_check_row(
+            cpi: usize,
+            listing: *const u32,
+            listing_len: usize,
+            batch: *const u64,
+            batch_len: usize,
+            scratch: *mut u64,
+            scratch_len: usize,
+        ) -> u64;
+        pub fn compare_check_house(cpi: usize, batch: *const u64, batch_len: usize) -> u64;
+        pub fn compare_apply(
+            cpi: usize,
+            listing: *const u32,
+            listing_len: usize,
+            batch: *const u64,
+            batch_len: usize,
+            relation: u32,
+            row: usize,
+            cycle: usize,
+            out: *mut u64,
+            out_len: usize,
+        ) -> u64;
+        pub fn compare_bit_test(cpi: usize, batch: *const u64, batch_len: usize) -> u64;
+    }
+}
+
+/// One word of a + b: the low one for word 0, the high one for any other.
+pub fn add_word(a: u128, b: u128, word: u32) -> u64 {
+    unsafe { c::compare_add(low(a), high(a), low(b), high(b), word) }
+}
+
+/// One word of a · b. Inlined, so that the benchmark times one call and not two.
+#[inline]
+pub fn mul_word(a: u128, b: u128, word: u32) -> u64 {
+    unsafe { c::compare_mul(low(a), high(a), low(b), high(b), word) }
+}
+
+/// One word of a shifted up by k bits.
+pub fn shl_word(a: u128, k: u32, word: u32) -> u64 {
+    unsafe { c::compare_shl(low(a), high(a), k, word) }
+}
+
+/// One word of a · 2^k.
+pub fn times_power_word(a: u128, k: u32, word: u32) -> u64 {
+    unsafe { c::compare_times_power(low(a), high(a), k, word) }
+}
+
+pub fn add(a: u128, b: u128) -> u128 {
+    element(add_word(a, b, 0), add_word(a, b, 1))
+}
+
+pub fn mul(a: u128, b: u128) -> u128 {
+    element(mul_word(a, b, 0), mul_word(a, b, 1))
+}
+
+pub fn shl(a: u128, k: u32) -> u128 {
+    element(shl_word(a, k, 0), shl_word(a, k, 1))
+}
+
+pub fn times_power(a: u128, k: u32) -> u128 {
+    element(times_power_word(a, k, 0), times_power_word(a, k, 1))
+}
+
+/// Part 0 is cpi, 1 w_cols, 2 m, 3 one_col, any other w128.
+pub fn geometry(cpi: usize, part: u32) -> Answer {
+    answer(unsafe { c::compare_geometry(cpi, part) })
+}
+
+pub fn map_col(cpi: usize, column: usize, cycle: usize) -> Answer {
+    answer(unsafe { c::compare_map_col(cpi, column, cycle) })
+}
+
+pub fn map_z_col(cpi: usize, column: usize, cycle: usize) -> Answer {
+    answer(unsafe { c::compare_map_z_col(cpi, column, cycle) })
+}
+
+/// Part 0 is the column that a batch column came from, any other the cycle.
+pub fn way_back(cpi: usize, batch_column: usize, part: u32) -> Answer {
+    answer(unsafe { c::compare_way_back(cpi, batch_column, part) })
+}
+
+/// Word i of the house listing, 0 past its end.
+pub fn listing_word(i: usize) -> u32 {
+    unsafe { c::compare_listing_word(i) }
+}
+
+/// A listing word as a cycle of a batch has it: index + 2^32 · coefficient + 2^40 · kind.
+pub fn batched(cpi: usize, cycle: usize, word: u32) -> Answer {
+    answer(unsafe { c::compare_batched(cpi, cycle, word) })
+}
+
+/// Constant i of the layout, in the order of the proved library's own table.
+pub fn layout(i: usize) -> Option<u64> {
+    answer(unsafe { c::compare_layout(i) }).ok()
+}
+
+/// Part 0 is the start of segment i, 1 its length, 2 + k byte k of its name.
+pub fn segment(i: usize, part: u32) -> Option<u64> {
+    answer(unsafe { c::compare_segment(i, part) }).ok()
+}
+
+/// The verdict on a batch, two words an element. Accepted: rows. Failed: 2^62 + relation · 2^61 +
+/// rows · 2^32 + batch row. Refused: 2^63 + number · 2^32 + place.
+pub fn check_row(cpi: usize, listing: &[u32], batch: &[u64], scratch: &mut [u64]) -> u64 {
+    unsafe {
+        c::compare_check_row(
+            cpi,
+            listing.as_ptr(),
+            listing.len(),
+            batch.as_ptr(),
+            batch.len(),
+            scratch.as_mut_ptr(),
+            scratch.len(),
+        )
+    }
+}
+
+/// The verdict against the house listing, which is not lent. Answers as `check_row` does.
+pub fn check_house(cpi: usize, batch: &[u64]) -> u64 {
+    unsafe { c::compare_check_house(cpi, batch.as_ptr(), batch.len()) }
+}
+
+/// A row of a listing: relation 0 is bin, any other fld.
+#[derive(Clone, Copy, Debug)]
+pub struct Row {
+    pub relation: u32,
+    pub row: usize,
+}
+
+/// Writes the three sums of a row in a cycle, two words each, and returns 0. Refused: 2^63 +
+/// number · 2^32 + place, or 2^63 alone for an `out` of fewer than six words.
+pub fn apply(
+    cpi: usize,
+    listing: &[u32],
+    batch: &[u64],
+    row: Row,
+    cycle: usize,
+    out: &mut [u64],
+) -> u64 {
+    unsafe {
+        c::compare_apply(
+            cpi,
+            listing.as_ptr(),
+            listing.len(),
+            batch.as_ptr(),
+            batch.len(),
+            row.relation,
+            row.row,
+            cycle,
+            out.as_mut_ptr(),
+            out.len(),
+        )
+    }
+}
+
+/// 0 where every column below one_col is 0 or 1. Else 2^62 + cycle · 2^48 + column · 2^32 + batch
+/// column. Refused: 2^63 + number · 2^32.
+pub fn bit_test(cpi: usize, batch: &[u64]) -> u64 {
+    unsafe { c::compare_bit_test(cpi, batch.as_ptr(), batch.len()) }
+}
+
+/// A refusal crosses the boundary as 2^63 + number.
+fn answer(raw: u64) -> Answer {
+    if raw >> 63 == 0 {
+        Ok(raw)
+    } else {
+        Err(raw & !(1 << 63))
+    }
+}
+
+fn element(lo: u64, hi: u64) -> u128 {
+    u128::from(lo) | u128::from(hi) << 64
+}
+
+fn low(a: u128) -> u64 {
+    a as u64
+}
+
+fn high(a: u128) -> u64 {
+    (a >> 64) as u64
+}
