@@ -7,10 +7,11 @@
 --     Determining     the rows that are solved, and with them the filling of one cycle: `filledBits`
 --     Filling         fillings of a batch, their count, and the filler's: `filled`
 --     Demand3         the statement, clause by clause
--- and the theorems are `demand3` of Proved, `filler-alone` of Alone and `all-fillings` of Count. The way there, from the ground up:
+-- and the theorems are `demand3` of Proved, `filler-alone` of Alone, `all-fillings` of Count and, of the bench sheet's P6 to P9, `sheet` of Sheet.
+-- The way there, from the ground up:
 -- words of any width (Cases, Numbers, Adder, Compare, Chain); Theorem U (Solvable, Unique, Determining); Theorem C (Families, Determined,
 -- Conditions, Taken, Given); from the field to bits (BinRows, FieldSums, FieldRows, Cycle); the batch (Placed, Count, Batch); the check (Listings,
--- Proved).
+-- Proved); the bench sheet's rows (Ones, FilledRow).
 pub mod Words
 pub mod Cases
 pub mod Numbers
@@ -41,3 +42,6 @@ pub mod Batch
 pub mod Alone
 pub mod Listings
 pub mod Proved
+pub mod Ones
+pub mod FilledRow
+pub mod Sheet

@@ -38,6 +38,13 @@ abbrev pub rowAt : List ℕ → ℕ → Row
 rowAt part at =
     record { relation = relationOf (getD part at 0); number = getD part at 0 % 2 ^ 9; sides = parse (drop (at + 1) part) .before }
 
+-- the rows from there on: that row, and those behind it
+pub rows-here : (part : List ℕ) (at end : ℕ) → at < length part → isMark (getD part at 0) ≡ true → RowEnds part (at + 1) end
+    → rowsOf (drop at part) ≡ rowAt part at ∷ rowsOf (drop end part)
+rows-here part at end h m e =
+    ap rowsOf (drop-cons part at 0 h) ∙ ap (λ n. rowsOf (getD part at 0 ∷ drop n part)) (sym (add-one at))
+    ∙ ap (λ p. p .rows) (parse-mark (getD part at 0) (drop (at + 1) part) m) ∙ ap (λ rs. rowAt part at ∷ rs) (sym (e .rows-left))
+
 -- ---- a list that is made piece by piece
 
 from-step : {A : Type 0} (f : ℕ → List A) (n i : ℕ) → i < n → fromEach i (n - i) f ≡ f i ++ fromEach (i + 1) (n - (i + 1)) f
@@ -86,10 +93,7 @@ module _ (cpi : ℕ) (bin fld : List ℕ) where
   pub row-here : (part : List ℕ) (r d at end : ℕ) → at < length part → isMark (getD part at 0) ≡ true → RowEnds part (at + 1) end
       → leftRows part r d at ≡ inCycle d (rowAt part at) ∷ leftRows part r d end
   unfolding leftRows
-  row-here part r d at end h m e =
-      ap (λ rs. map (inCycle d) rs ++ leftCycles r (d + 1))
-      (ap rowsOf (drop-cons part at 0 h) ∙ ap (λ n. rowsOf (getD part at 0 ∷ drop n part)) (sym (add-one at))
-      ∙ ap (λ p. p .rows) (parse-mark (getD part at 0) (drop (at + 1) part) m) ∙ ap (λ rs. rowAt part at ∷ rs) (sym (e .rows-left)))
+  row-here part r d at end h m e = ap (λ rs. map (inCycle d) rs ++ leftCycles r (d + 1)) (rows-here part at end h m e)
 
 -- ---- the verdict from there on
 

@@ -108,6 +108,13 @@ mark-first w ws h = by-test (isMark w) refl
     by-test true m = (m, rw m at h)
     by-test false m = absurd (false≢true (rw m at h))
 
+-- where words that are rows have one at an index, it is a mark, and sorted terms stand behind it
+pub at-mark : (part : List ℕ) (at : ℕ) → at < length part → sorted 3 (drop at part) ≡ true
+    → (isMark (getD part at 0) ≡ true) × (sorted 0 (drop (at + 1) part) ≡ true)
+at-mark part at h s =
+    subst (λ n. (isMark (getD part at 0) ≡ true) × (sorted 0 (drop n part) ≡ true)) (sym (add-one at))
+    (mark-first (getD part at 0) _ (ap (sorted 3) (sym (drop-cons part at 0 h)) ∙ s))
+
 headed : (ws : List ℕ) → sorted 3 ws ≡ true → parse ws .before ≡ empty
 unfolding parse
 headed [] h = refl

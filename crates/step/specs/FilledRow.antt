@@ -1,0 +1,263 @@
+-- The check's verdict on a filled row of cpi 1 that is given by the columns that hold 1: accepted where the ten conditions hold, or the first
+-- row that fails, where it is RAM address, the adder or the public output. The bench sheet's lines are cases of this.
+-- Assumes nothing.
+use mathlib.Core.Path.{_≡_, refl, sym, ap, ap₂, subst, _∙_}
+use mathlib.Core.Bool.{Bool, true, false, not, _&&_, and-false, true≢false, false≢true}
+use mathlib.Core.List.{List, [], _∷_, _++_, map}
+use Prim.Native.Nat.{ℕ, suc, _+_, _*_}
+use native.Mathlib.Omega.{arith}
+use borrow.Author.Tests.{eq-eqb}
+use lib.ListN.{length, replicate, drop, length-append}
+use Rattle.field.specs.declared.Gf128.{Gf128}
+use Rattle.field.specs.Gf.{ofWords}
+use Rattle.field.specs.Gf.Laws.{words-injective}
+use Rattle.layout.specs.Columns.{ONE-COL, RD, T1, T2, ALU, SUB, WE, IS-LOAD, IS-STORE, IS-ARITH, LD-HALF, LD-WORD, RAM-ADDR, FETCH-OP, WNL, ZE16, ZE8}
+use Rattle.layout.specs.Batch.{allowed}
+use Rattle.layout.specs.Questions.{passed, refused}
+use Rattle.circuit.specs.declared.Relation.{Relation}
+use Rattle.circuit.specs.declared.Relation.the-variants.{Bin, Fld}
+use Rattle.circuit.specs.Rows.{Sides, Row, from, fromEach, joined, numbered}
+use Rattle.circuit.specs.Circuit.{adderRow, copyRows, addressRow, extensionRow, agreeRow, sumRow, firstCarryRow, outputRow, binFamilies, fldFamilies, circuitRows, circuitWords}
+use Rattle.circuit.specs.Parse.{rowsOf}
+use Rattle.circuit.specs.Batched.{batchRow}
+use Rattle.circuit.specs.House.{words-read, in-order, counts}
+use Rattle.verdict.specs.declared.Verdict.the-variants.{Accepted, Failed}
+use Rattle.verdict.specs.declared.CheckAnswer.the-variants.{Judged}
+use Rattle.verdict.specs.Row.{cycleOf, holds}
+use Rattle.verdict.specs.OverBits.{plain}
+use Rattle.verdict.specs.Depends.{named}
+use Rattle.verdict.specs.Check.{Constraint, inCycle, ofRelation, constraints, met, run, judged, asked, after, checked}
+use Rattle.verdict.specs.Verdicts.{All, all-append, Met, run-past, accepts}
+use Rattle.step.specs.Words.{_⊻_, word, bitsOf}
+use Rattle.step.specs.Cases.{no-true}
+use Rattle.step.specs.Step.{Step, opcode}
+use Rattle.step.specs.Derived.{derived}
+use Rattle.step.specs.Solve.{Holds}
+use Rattle.step.specs.Families.{all-joined, all-from, all-numbered}
+use Rattle.step.specs.Determining.{beforeHalt, determiningFamilies, determining}
+use Rattle.step.specs.Determined.{Determined}
+use Rattle.step.specs.Given.{SameGiven, same-word}
+use Rattle.step.specs.BinRows.{address-row, extension-row, one-halt, bin-parts}
+use Rattle.step.specs.FieldRows.{bin-row, agree-row, sum-row, output-row}
+use Rattle.step.specs.Cycle.{OfBits, allOverBits, all-bin}
+use Rattle.step.specs.Filling.{fillerBits, filled}
+use Rattle.step.specs.Placed.{filling-length}
+use Rattle.step.specs.Demand3.{Premises}
+use Rattle.step.specs.Batch.{same-given, same-public, of-bits, filled-meets, filled-determined, rows-or-conditions}
+use Rattle.step.specs.Listings.{cycle-rows, house}
+use Rattle.step.specs.Ones.{has, Holding, Fits, bits-are, output-is, premises}
+
+-- ---- every question is answered with yes
+
+filled-length : (row : List ℕ) → length (filled 1 row) ≡ length row
+unfolding filled
+filled-length row = filling-length 1 (fillerBits 1 row) row
+
+pub filled-checked : (row scratch : List ℕ) → length row ≡ 8192 → length scratch ≡ 3072
+    → checked 1 circuitWords (filled 1 row) scratch ≡ record { answer = Judged (judged 1 circuitWords (filled 1 row)); scratch = replicate 3072 0 }
+unfolding checked asked allowed
+filled-checked row scratch words room =
+    let v = judged 1 circuitWords (filled 1 row) in
+    let e = passed _ _ _ (eq-eqb (length (filled 1 row)) (8192 * 1) (filled-length row ∙ words)) in
+    ap (λ q. after q v scratch) (sym (sym in-order ∙ passed _ _ _ (eq-eqb (length scratch) 3072 room) ∙ e))
+    ∙ ap (λ n. record { answer = Judged v; scratch = replicate n 0 }) room
+
+-- ---- the constraints of cycle 0, in their order
+
+abbrev at : Relation → ℕ → Sides → Constraint
+at rel n s = inCycle 0 (record { relation = rel; number = n; sides = s })
+
+abbrev rowsIn : Relation → List Sides → List Constraint
+rowsIn rel ss = map (inCycle 0) (numbered rel 0 ss)
+
+-- the rows before the first of RAM address, and all of bin
+beforeAddress : List Sides
+beforeAddress = from 0 63 adderRow ++ fromEach 0 64 copyRows
+
+bins : List Constraint
+bins = rowsIn Bin (joined binFamilies)
+
+-- the fld rows before the adder's, and before the first of halt
+abbrev beforeSum : List Sides
+beforeSum = agreeRow 64 WNL ALU RD ∷ []
+
+abbrev beforeOutput : List Sides
+beforeOutput = agreeRow 64 WNL ALU RD ∷ sumRow ∷ firstCarryRow ∷ []
+
+address-at : constraints 1 circuitRows ≡ rowsIn Bin beforeAddress ++ (at Bin 255 (addressRow 0) ∷ drop 256 (constraints 1 circuitRows))
+unfolding constraints ofRelation circuitRows binFamilies fldFamilies from fromEach joined numbered beforeAddress
+address-at = refl
+
+sum-at : constraints 1 circuitRows ≡ (bins ++ rowsIn Fld beforeSum) ++ (at Fld 1 sumRow ∷ drop 485 (constraints 1 circuitRows))
+unfolding constraints ofRelation circuitRows binFamilies fldFamilies from fromEach joined numbered bins
+sum-at = refl
+
+output-at : constraints 1 circuitRows ≡ (bins ++ rowsIn Fld beforeOutput) ++ (at Fld 3 outputRow ∷ drop 487 (constraints 1 circuitRows))
+unfolding constraints ofRelation circuitRows binFamilies fldFamilies from fromEach joined numbered bins
+output-at = refl
+
+bins-count : length bins ≡ 483
+unfolding bins binFamilies from fromEach joined numbered
+bins-count = refl
+
+rows-count : (rel : Relation) (ss : List Sides) → length (rowsIn rel ss) ≡ length ss
+unfolding numbered
+rows-count rel ss = go 0 ss
+  where
+    go : (n : ℕ) (ss : List Sides) → length (map (inCycle 0) (numbered rel n ss)) ≡ length ss
+    go n [] = refl
+    go n (s ∷ ss) = ap suc (go (suc n) ss)
+
+bins-over-bits : allOverBits (joined binFamilies) ≡ true
+unfolding binFamilies from fromEach joined plain named
+bins-over-bits = refl
+
+rows-met : (view : ℕ → ℕ → Gf128) (rel : Relation) (ss : List Sides) → All (λ s. holds (view 0) s ≡ true) ss → Met (met view) (rowsIn rel ss)
+rows-met view rel ss h = mapped (numbered rel 0 ss) (all-numbered (λ s. holds (view 0) s ≡ true) rel 0 ss .1 h)
+  where
+    mapped : (rs : List Row) → All (λ r. holds (view 0) (r .sides) ≡ true) rs → Met (met view) (map (inCycle 0) rs)
+    mapped [] h = tt
+    mapped (r ∷ rs) h = (h .0, mapped rs (h .1))
+
+not-same : (k : Bool) → not k ≡ k → ⊥
+not-same true e = false≢true e
+not-same false e = true≢false e
+
+-- ---- a row that holds 1 in the columns cs and n in the public element, filled
+
+module _ (cs : List ℕ) (n : ℕ) (row : List ℕ) (h : Holding cs n row) (t : Fits cs n) where
+  p : Premises 1 row
+  p = premises cs n row h t
+
+  abbrev view : ℕ → ℕ → Gf128
+  view = cycleOf 1 (filled 1 row)
+
+  abbrev z : ℕ → Gf128
+  z = view 0
+
+  abbrev b : ℕ → Bool
+  b = bitsOf 1 (filled 1 row) 0
+
+  given : SameGiven b (has cs)
+  unfolding filled
+  given c e = same-given 1 (omega arith) row p (fillerBits 1 row) 0 (omega arith) c e ∙ ap (λ (f : ℕ → Bool). f c) (bits-are cs n row h t)
+
+  of : OfBits z b
+  unfolding filled
+  of = of-bits 1 (omega arith) row p (fillerBits 1 row) 0 (omega arith)
+
+  public : z (ONE-COL + 1) ≡ ofWords n 0
+  unfolding filled
+  public = same-public 1 (omega arith) row p (fillerBits 1 row) 0 (omega arith) ∙ output-is cs n row h t
+
+  facts : Determined b
+  facts = filled-determined 1 (omega arith) row p 0 (omega arith)
+
+  families : All (All (Holds b)) determiningFamilies
+  unfolding determining
+  families = all-joined (Holds b) determiningFamilies .0 (filled-meets 1 (omega arith) row p 0 (omega arith))
+
+  pub accepted : Step (has cs) (ofWords n 0) → judged 1 circuitWords (filled 1 row) ≡ Accepted 514
+  accepted s =
+      accepts 1 circuitWords (filled 1 row) (λ d l. let e : 0 ≡ d = omega arith in subst Every e every-row)
+      ∙ ap (λ (rs : List Row). Accepted (1 * length rs)) words-read ∙ ap (λ (k : ℕ). Accepted (1 * k)) (counts .rows)
+    where
+      Every : ℕ → Type 0
+      Every d = All (λ r. holds (view d) (r .sides) ≡ true) (rowsOf circuitWords)
+
+      over-bits : Step (bitsOf 1 row 0) (ofWords n 0)
+      over-bits = subst (λ (f : ℕ → Bool). Step f (ofWords n 0)) (sym (bits-are cs n row h t)) s
+
+      conditions : Step (bitsOf 1 row 0) (cycleOf 1 row 0 (ONE-COL + 1))
+      conditions = subst (Step (bitsOf 1 row 0)) (sym (output-is cs n row h t)) over-bits
+
+      every-row : Every 0
+      every-row = cycle-rows circuitWords [] house z .1 (rows-or-conditions 1 (omega arith) row p 0 (omega arith) .1 conditions, tt)
+
+  -- the first constraint that does not hold
+  first-fails : (xs : List Constraint) (k : Constraint) (ys : List Constraint) → constraints 1 circuitRows ≡ xs ++ (k ∷ ys)
+      → Met (met view) xs → met view k ≡ false
+      → judged 1 circuitWords (filled 1 row) ≡ Failed (k .row .relation) (batchRow (k .row .relation) (k .cycle) (k .row .number)) (0 + length xs + 1)
+  unfolding judged run
+  first-fails xs k ys e held fails =
+      ap (run (met view) 0) (ap (constraints 1) words-read ∙ e) ∙ run-past (met view) xs (k ∷ ys) 0 held ∙ sym (refused (met view k) _ _ fails)
+
+  -- just one of load and store, and the lowest bits of RAM_ADDR and of the address in ALU differ
+  pub address-fails : (has cs IS-LOAD ⊻ has cs IS-STORE) ≡ true → has cs RAM-ADDR ≡ not (has cs (ALU + 3))
+      → judged 1 circuitWords (filled 1 row) ≡ Failed Bin 255 256
+  unfolding derived from fromEach plain named numbered beforeHalt beforeAddress
+  address-fails one differ =
+      first-fails (rowsIn Bin beforeAddress) (at Bin 255 (addressRow 0)) (drop 256 (constraints 1 circuitRows)) address-at
+      (rows-met view Bin beforeAddress
+      (all-bin z b of beforeAddress refl .1 (all-append (Holds b) (from 0 63 adderRow) (fromEach 0 64 copyRows) (families .1 .0) (families .1 .1 .0))))
+      (no-true _ (λ e. not-same (has cs (ALU + 3)) (sym differ ∙ sym (given RAM-ADDR refl) ∙ agree e ∙ given (ALU + 3) refl)))
+    where
+      agree : holds z (addressRow 0) ≡ true → b RAM-ADDR ≡ b (ALU + 3)
+      agree e = address-row b (of .one) 0 .0 (bin-row z b (of .bits) (addressRow 0) refl .0 e) (ap₂ _⊻_ (given IS-LOAD refl) (given IS-STORE refl) ∙ one)
+
+  -- where nothing is loaded, stored or written, the bin rows hold, and fld row 0
+  module _ (load : has cs IS-LOAD ≡ false) (store : has cs IS-STORE ≡ false) (write : has cs WE ≡ false) where
+    no-load : b IS-LOAD ≡ false
+    unfolding derived
+    no-load = given IS-LOAD refl ∙ load
+
+    bins-met : Met (met view) bins
+    unfolding derived bins
+    bins-met =
+        rows-met view Bin (joined binFamilies)
+        (all-bin z b of (joined binFamilies) bins-over-bits .1
+        (all-joined (Holds b) binFamilies .1
+        (bin-parts (Holds b) .1
+        (record {
+          determine = one-halt b (of .one) .1 (families .1);
+          address = all-from (Holds b) 0 8 addressRow .1 (λ i _ _. address-row b (of .one) i .1 (λ e. absurd (false≢true (sym no-access ∙ e))));
+          extend16 = all-from (Holds b) 16 48 (extensionRow ZE16) .1
+              (λ k _ _. extension-row b (of .one) ZE16 k .1 (shut (not (b LD-WORD)) (facts .extend16)));
+          extend8 = all-from (Holds b) 8 8 (extensionRow ZE8) .1
+              (λ k _ _. extension-row b (of .one) ZE8 k .1 (shut (not (b LD-WORD) && not (b LD-HALF)) (facts .extend8)));
+        }))))
+      where
+        no-access : (b IS-LOAD ⊻ b IS-STORE) ≡ false
+        no-access = ap₂ _⊻_ no-load (given IS-STORE refl ∙ store)
+
+        shut : {A : Type 0} {x : Bool} (y : Bool) → x ≡ (y && b IS-LOAD) → x ≡ true → A
+        shut y e on = absurd (false≢true (sym (e ∙ ap (_&&_ y) no-load ∙ and-false y) ∙ on))
+
+    write-holds : holds z (agreeRow 64 WNL ALU RD) ≡ true
+    unfolding derived
+    write-holds =
+        let off = facts .write-gate ∙ ap (λ (k : Bool). k && not (b IS-LOAD)) (given WE refl ∙ write) in
+        agree-row z b (of .bits) 64 WNL ALU RD (omega arith) (omega arith) (omega arith) (omega arith) .1 (λ e. absurd (false≢true (sym off ∙ e)))
+
+    -- a fld row, after those before it
+    fld-fails : (ss : List Sides) (s : Sides)
+        → constraints 1 circuitRows ≡ (bins ++ rowsIn Fld ss) ++ (at Fld (length ss) s ∷ drop (484 + length ss) (constraints 1 circuitRows))
+        → All (λ s. holds z s ≡ true) ss → holds z s ≡ false → judged 1 circuitWords (filled 1 row) ≡ Failed Fld (length ss) (484 + length ss)
+    fld-fails ss s e held fails =
+        first-fails (bins ++ rowsIn Fld ss) (at Fld (length ss) s) (drop (484 + length ss) (constraints 1 circuitRows)) e
+        (all-append (λ k. met view k ≡ true) bins (rowsIn Fld ss) bins-met (rows-met view Fld ss held)) fails
+        ∙ ap₂ (Failed Fld) (omega arith) (omega (arith, length-append bins (rowsIn Fld ss), bins-count, rows-count Fld ss))
+
+    -- arithmetic, and the lowest bit of ALU is not that of the sum
+    pub sum-fails : has cs IS-ARITH ≡ true → has cs ALU ≡ not (has cs T1 ⊻ has cs T2 ⊻ has cs SUB) → judged 1 circuitWords (filled 1 row) ≡ Failed Fld 1 485
+    unfolding derived
+    sum-fails adds differ = fld-fails beforeSum sumRow sum-at (write-holds, tt) (no-true _ (λ e. not-same _ (sym differ ∙ sym (given ALU refl) ∙ lowest e)))
+      where
+        lowest : holds z sumRow ≡ true → b ALU ≡ has cs T1 ⊻ has cs T2 ⊻ has cs SUB
+        lowest e =
+            sum-row z b (of .bits) .0 e (given IS-ARITH refl ∙ adds) 0 (omega arith)
+            ∙ ap₂ _⊻_ (ap₂ _⊻_ (given T1 refl) (given T2 refl)) (facts .first-carry ∙ given SUB refl)
+
+    -- opcode 0x73, no arithmetic, and the public element is not RD
+    pub output-fails : has cs IS-ARITH ≡ false → opcode (has cs) ≡ 0x73 → (n ≡ word (has cs) RD 64 → ⊥)
+        → judged 1 circuitWords (filled 1 row) ≡ Failed Fld 3 487
+    unfolding derived plain named
+    output-fails no-sum system differ =
+        fld-fails beforeOutput outputRow output-at (write-holds, (sum-holds, (bin-row z b (of .bits) firstCarryRow refl .1 (families .0 .0), tt)))
+        (no-true _ (λ e. differ (words-injective _ _ _ _ (sym public ∙ shown e) .0 ∙ same-word b (has cs) given RD 64 refl)))
+      where
+        sum-holds : holds z sumRow ≡ true
+        sum-holds = sum-row z b (of .bits) .1 (λ e. absurd (false≢true (sym (given IS-ARITH refl ∙ no-sum) ∙ e)))
+
+        shown : holds z outputRow ≡ true → z (ONE-COL + 1) ≡ ofWords (word b RD 64) 0
+        shown e = output-row z b (of .bits) (of .public) .0 e (facts .halt ∙ eq-eqb _ _ (same-word b (has cs) given FETCH-OP 7 refl ∙ system))
