@@ -32,6 +32,11 @@ use Rattle.verdict.specs.declared.ApplyAnswer.the-variants.{Of as Summed, Refus
 use Rattle.verdict.specs.declared.bits.BitAnswer.{BitAnswer}
 use Rattle.verdict.specs.declared.bits.BitAnswer.the-variants.{AllBits, NotBit, Refused as NotTested}
 use Rattle.verdict.specs.Check.{Checked}
+use Rattle.layout.specs.declared.Asked.{Asked}
+use Rattle.layout.specs.declared.Asked.the-variants.{Yes, No}
+use Rattle.step.specs.declared.conditions.StepAnswer.{StepAnswer}
+use Rattle.step.specs.declared.conditions.StepAnswer.the-variants.{Meets, Unmet, Refused as NotAsked}
+use Rattle.step.specs.Fill.{Called}
 
 -- the low word of an element for 0, else the high one
 abbrev pub wordOf : ℕ → Gf128 → ℕ
@@ -128,6 +133,22 @@ abbrev pub bitNumber : BitAnswer → ℕ
 bitNumber AllBits = 0
 bitNumber (NotBit at c d) = 2 ^ 62 + d * 2 ^ 48 + c * 2 ^ 32 + at
 bitNumber (NotTested r) = refusedAt r
+
+-- ---- the filler and the conditions
+
+-- filled: 0
+abbrev pub askedNumber : Asked → ℕ
+askedNumber Yes = 0
+askedNumber (No r) = refusedAt r
+
+abbrev pub fillReply : Called → Reply
+fillReply c = reply (askedNumber (c .answer)) (c .batch)
+
+-- all met: 0
+abbrev pub stepNumber : StepAnswer → ℕ
+stepNumber Meets = 0
+stepNumber (Unmet k) = k
+stepNumber (NotAsked r) = refusedAt r
 
 -- ---- the tables of columns and segments
 

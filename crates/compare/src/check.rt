@@ -15,7 +15,7 @@ use verdict::Sums;
 use verdict::Verdict;
 use verdict::bits::BitAnswer;
 
-fn refused_at(r: Refusal) -> u64
+pub fn refused_at(r: Refusal) -> u64
     ensures { λ n. ⌜ n ≡ refusedAt r ⌝ }
 {
     0x8000000000000000 + r.number as u64 * 0x100000000 + r.place as u64 % 0x100000000

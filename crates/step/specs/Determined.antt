@@ -3,7 +3,7 @@
 use mathlib.Core.Path.{_≡_, refl, sym, ap, ap₂, _∙_}
 use mathlib.Core.Bool.{Bool, true, false, not, _&&_, and-true, true≢false, false≢true}
 use mathlib.Core.List.{List, [], _∷_}
-use Prim.Native.Nat.{ℕ, zero, suc, _+_, _-_, _%_, _<_}
+use Prim.Native.Nat.{ℕ, suc, _+_, _-_, _%_, _<_}
 use native.Mathlib.Nat.{add-zero}
 use native.Mathlib.Omega.{arith}
 use lib.Dec.{eqb}
@@ -20,6 +20,7 @@ use Rattle.step.specs.Adder.{majority, Carries}
 use Rattle.step.specs.Compare.{signedLess}
 use Rattle.step.specs.Chain.{alike, chain, two-stages}
 use Rattle.step.specs.Step.{opcode, funct3, offset}
+use Rattle.step.specs.Sides.{sum-one, sum-more, sum-two, sum-not, sum-three, sum-six, sum-is, sum-isOf}
 use Rattle.step.specs.Solve.{lacks, Holds}
 use Rattle.step.specs.Families.{all-from, all-each}
 use Rattle.step.specs.Determining.{beforeHalt, afterHalt, determiningFamilies}
@@ -54,51 +55,12 @@ linear true true p e = absurd (true≢false e)
 linear true false p e = absurd (false≢true p)
 linear false o p e = refl
 
-xor-right : (a b c : Bool) → (a ⊻ (b ⊻ c)) ≡ a ⊻ b ⊻ c
-xor-right = of-three _ _ refl
-
 no-out : (a b c : Bool) → ((a && b) ⊻ (c && (a ⊻ b)) ⊻ true) ≡ not (majority a b c)
 no-out = of-three _ _ refl
 
 -- ---- sides and rows over bits, the one column 1
 
 module _ (b : ℕ → Bool) (b1 : b ONE-COL ≡ true) where
-  sum-one : (x : ℕ) → sumBits b (col x ∷ []) ≡ b x
-  unfolding sumBits
-  sum-one x = xor-false (b x)
-
-  sum-more : (x : ℕ) (ts : List Term) {y : Bool} → sumBits b ts ≡ y → sumBits b (col x ∷ ts) ≡ b x ⊻ y
-  unfolding sumBits
-  sum-more x ts e = ap (λ (y : Bool). b x ⊻ y) e
-
-  sum-two : (x y : ℕ) → sumBits b (col x ∷ col y ∷ []) ≡ b x ⊻ b y
-  sum-two x y = sum-more x (col y ∷ []) (sum-one y)
-
-  sum-not : (x : ℕ) → sumBits b (col x ∷ one ∷ []) ≡ not (b x)
-  sum-not x = sum-two x ONE-COL ∙ ap (λ (o : Bool). b x ⊻ o) b1 ∙ flip (b x)
-    where
-      flip : (v : Bool) → (v ⊻ true) ≡ not v
-      flip true = refl
-      flip false = refl
-
-  sum-three : (x y : ℕ) → sumBits b (col x ∷ col y ∷ one ∷ []) ≡ b x ⊻ b y ⊻ true
-  sum-three x y = sum-more x _ (sum-more y _ (sum-one ONE-COL ∙ b1)) ∙ xor-right (b x) (b y) true
-
-  sum-six : (u v w x y z : ℕ) → sumBits b (col u ∷ col v ∷ col w ∷ col x ∷ col y ∷ col z ∷ []) ≡ b u ⊻ b v ⊻ b w ⊻ b x ⊻ b y ⊻ b z
-  sum-six u v w x y z =
-      sum-more u _ (sum-more v _ (sum-more w _ (sum-more x _ (sum-two y z))))
-      ∙ xor-right (b u) (b v) _ ∙ xor-right (b u ⊻ b v) (b w) _ ∙ xor-right (b u ⊻ b v ⊻ b w) (b x) _ ∙ xor-right (b u ⊻ b v ⊻ b w ⊻ b x) (b y) (b z)
-
-  sum-is : (x n : ℕ) → sumBits b (is x n) ≡ alike (b x) (isSet n)
-  unfolding sumBits
-  sum-is x zero = ap (λ (o : Bool). b x ⊻ (o ⊻ false)) b1
-  sum-is x (suc n) = refl
-
-  sum-isOf : (x n : ℕ) → sumBits b (isOf x n) ≡ alike (b x) (isSet n)
-  unfolding sumBits
-  sum-isOf x zero = ap (λ (o : Bool). b x ⊻ (o ⊻ false)) b1
-  sum-isOf x (suc n) = refl
-
   -- a row whose C is one column
   product-row : (l m : List Term) (p : ℕ) {x y : Bool} → sumBits b l ≡ x → sumBits b m ≡ y → Holds b (row l m (col p ∷ [])) → b p ≡ (x && y)
   unfolding lacks sumBits
@@ -110,7 +72,7 @@ module _ (b : ℕ → Bool) (b1 : b ONE-COL ≡ true) where
   zero-row l h = linear (sumBits b l) (b ONE-COL) b1 h
 
   first-row : (x : ℕ) (test : List Term) → Holds b (chainStart x test) → b x ≡ sumBits b test
-  first-row x test h = xor-cancel (b x) (sumBits b test) (sym (sum-more x test refl) ∙ zero-row (col x ∷ test) h)
+  first-row x test h = xor-cancel (b x) (sumBits b test) (sym (sum-more b b1 x test refl) ∙ zero-row (col x ∷ test) h)
 
   -- ---- the families
 
@@ -120,28 +82,28 @@ module _ (b : ℕ → Bool) (b1 : b ONE-COL ≡ true) where
   chain-rows x y n k test e h =
       chain (λ i. b (y + i)) (λ i. isSet (k i)) n (λ i. b (x + i)) (
         ap b (add-zero x) ∙ first-row x (test 0) (h .0) ∙ e 0,
-        λ i l. product-row _ _ _ (sum-one (x + suc i - 1)) (e (suc i))
+        λ i l. product-row _ _ _ (sum-one b b1 (x + suc i - 1)) (e (suc i))
             (all-from (Holds b) 1 n (λ i. chainNext x i (test i)) .0 (h .1) (suc i) (omega arith) (omega arith))
             ∙ ap (λ (c : ℕ). b c && alike (b (y + suc i)) (isSet (k (suc i)))) (omega arith),
       )
 
   opcode-rows : (x op : ℕ) → op < 128 → All (Holds b) (opcodeRows x op) → b (x + 6) ≡ eqb (opcode b) op
   opcode-rows x op l h =
-      chain-rows x FETCH-OP 6 (bitOf op) (λ i. isOf (FETCH-OP + i) (bitOf op i)) (λ i. sum-isOf (FETCH-OP + i) (bitOf op i)) h
+      chain-rows x FETCH-OP 6 (bitOf op) (λ i. isOf (FETCH-OP + i) (bitOf op i)) (λ i. sum-isOf b b1 (FETCH-OP + i) (bitOf op i)) h
       ∙ ap (eqb (opcode b)) (val-bits 7 op l)
 
   offset-rows : (v p e : ℕ) → v < 8 → All (Holds b) (offsetRows v p e) → b e ≡ eqb (offset b) v
   offset-rows v p e l h =
       two-stages (λ i. b (OFF + i)) (λ i. isSet (bitOf v i)) (b p) (b e)
-      (product-row _ _ _ (sum-is OFF (bitOf v 0)) (sum-is (OFF + 1) (bitOf v 1)) (h .0))
-      (product-row _ _ _ (sum-one p) (sum-is (OFF + 2) (bitOf v 2)) (h .1 .0))
+      (product-row _ _ _ (sum-is b b1 OFF (bitOf v 0)) (sum-is b b1 (OFF + 1) (bitOf v 1)) (h .0))
+      (product-row _ _ _ (sum-one b b1 p) (sum-is b b1 (OFF + 2) (bitOf v 2)) (h .1 .0))
       ∙ ap (eqb (offset b)) (val-bits 3 v l)
 
   funct3-rows : (f : ℕ) → f < 8 → All (Holds b) (funct3Rows f) → b (EQF + f) ≡ eqb (funct3 b) f
   funct3-rows f l h =
       two-stages (λ i. b (FETCH-FUNCT3 + i)) (λ i. isSet (bitOf f i)) (b (EQFM + f)) (b (EQF + f))
-      (product-row _ _ _ (sum-isOf FETCH-FUNCT3 (bitOf f 0)) (sum-isOf (FETCH-FUNCT3 + 1) (bitOf f 1)) (h .0))
-      (product-row _ _ _ (sum-one (EQFM + f)) (sum-isOf (FETCH-FUNCT3 + 2) (bitOf f 2)) (h .1 .0))
+      (product-row _ _ _ (sum-isOf b b1 FETCH-FUNCT3 (bitOf f 0)) (sum-isOf b b1 (FETCH-FUNCT3 + 1) (bitOf f 1)) (h .0))
+      (product-row _ _ _ (sum-one b b1 (EQFM + f)) (sum-isOf b b1 (FETCH-FUNCT3 + 2) (bitOf f 2)) (h .1 .0))
       ∙ ap (eqb (funct3 b)) (val-bits 3 f l)
 
   adder-row : (i : ℕ) → Holds b (adderRow i) → b (CARRY-OFF + suc i) ≡ majority (b (T1 + i)) (b (T2 + i)) (b (CARRY-OFF + i))
@@ -164,30 +126,30 @@ module _ (b : ℕ → Bool) (b1 : b ONE-COL ≡ true) where
       let lane-before : ((a : ℕ) → a < 8 → b (EQB + a) ≡ eqb (offset b) ((a + 7) % 8)) =
       λ a l. offset-rows ((a + 7) % 8) (PB + a) (EQB + a) (omega arith) (lanes a l .1 .1) in
       record {
-        first-carry = product-row _ _ _ (sum-one SUB) (sum-one ONE-COL ∙ b1) (h .0 .0) ∙ and-true (b SUB);
+        first-carry = product-row _ _ _ (sum-one b b1 SUB) (sum-one b b1 ONE-COL ∙ b1) (h .0 .0) ∙ and-true (b SUB);
         carries = λ i l. adder-row i (all-from (Holds b) 0 63 adderRow .0 (h .1 .0) i (omega arith) (omega arith));
-        byte-lane = λ a l. product-row _ _ _ (sum-one (EQA + a) ∙ lane a l) (sum-one LD-BYTE) (conditionals a l .0);
-        half-lane = λ a l. product-row _ _ _ (sum-one (EQA + a) ∙ lane a l) (sum-one LD-HALF) (conditionals a l .1 .0);
-        next-lane = λ a l. product-row _ _ _ (sum-one (EQB + a) ∙ lane-before a l) (sum-one LD-HALF) (conditionals a l .1 .1 .0);
-        extend16 = product-row _ _ _ (sum-not LD-WORD) (sum-one IS-LOAD) (gates .1 .0 .0);
+        byte-lane = λ a l. product-row _ _ _ (sum-one b b1 (EQA + a) ∙ lane a l) (sum-one b b1 LD-BYTE) (conditionals a l .0);
+        half-lane = λ a l. product-row _ _ _ (sum-one b b1 (EQA + a) ∙ lane a l) (sum-one b b1 LD-HALF) (conditionals a l .1 .0);
+        next-lane = λ a l. product-row _ _ _ (sum-one b b1 (EQB + a) ∙ lane-before a l) (sum-one b b1 LD-HALF) (conditionals a l .1 .1 .0);
+        extend16 = product-row _ _ _ (sum-not b b1 LD-WORD) (sum-one b b1 IS-LOAD) (gates .1 .0 .0);
         extend8 =
-            product-row _ _ _ (sum-one NH ∙ product-row _ _ _ (sum-not LD-WORD) (sum-not LD-HALF) (gates .0 .0)) (sum-one IS-LOAD) (gates .1 .1 .0 .0);
-        write-gate = product-row _ _ _ (sum-one WE) (sum-not IS-LOAD) (last .1 .1 .1 .0 .0);
-        zero-alu = chain-rows ZERO ALU 63 (λ i. 0) (λ i. is (ALU + i) 0) (λ i. sum-is (ALU + i) 0) (chains .0) ∙ ap (eqb (word b ALU 64)) (no-bits 64);
+            product-row _ _ _ (sum-one b b1 NH ∙ product-row _ _ _ (sum-not b b1 LD-WORD) (sum-not b b1 LD-HALF) (gates .0 .0)) (sum-one b b1 IS-LOAD) (gates .1 .1 .0 .0);
+        write-gate = product-row _ _ _ (sum-one b b1 WE) (sum-not b b1 IS-LOAD) (last .1 .1 .1 .0 .0);
+        zero-alu = chain-rows ZERO ALU 63 (λ i. 0) (λ i. is (ALU + i) 0) (λ i. sum-is b b1 (ALU + i) 0) (chains .0) ∙ ap (eqb (word b ALU 64)) (no-bits 64);
         halt =
-            xor-cancel (b HALT) (b (OPSYS + 6)) (sym (sum-two HALT (OPSYS + 6)) ∙ zero-row _ (chains .1 .1 .1 .0 .0))
+            xor-cancel (b HALT) (b (OPSYS + 6)) (sym (sum-two b b1 HALT (OPSYS + 6)) ∙ zero-row _ (chains .1 .1 .1 .0 .0))
             ∙ opcode-rows OPSYS 0x73 (omega arith) (chains .1 .0);
         branch = opcode-rows OPBR 0x63 (omega arith) (chains .1 .1 .0);
         funct3-is = λ f l. funct3-rows f l (all-each (Holds b) 0 8 funct3Rows .0 (chains .1 .1 .1 .1 .0) f (omega arith) (omega arith));
         less-signed =
-            ap₂ _⊻_ (product-row _ _ _ (sum-two (RS1 + 63) (RS2 + 63)) (sum-one (RS1 + 63)) (compare .0))
-            (product-row _ _ _ (sum-three (RS1 + 63) (RS2 + 63)) (sum-one (ALU + 63)) (compare .1 .0));
+            ap₂ _⊻_ (product-row _ _ _ (sum-two b b1 (RS1 + 63) (RS2 + 63)) (sum-one b b1 (RS1 + 63)) (compare .0))
+            (product-row _ _ _ (sum-three b b1 (RS1 + 63) (RS2 + 63)) (sum-one b b1 (ALU + 63)) (compare .1 .0));
         no-carry-out =
-            ap₂ (λ (x y : Bool). x ⊻ y ⊻ true) (product-row _ _ _ (sum-one (T1 + 63)) (sum-one (T2 + 63)) (compare .1 .1 .0))
-            (product-row _ _ _ (sum-one (CARRY-OFF + 63)) (sum-two (T1 + 63) (T2 + 63)) (compare .1 .1 .1 .0))
+            ap₂ (λ (x y : Bool). x ⊻ y ⊻ true) (product-row _ _ _ (sum-one b b1 (T1 + 63)) (sum-one b b1 (T2 + 63)) (compare .1 .1 .0))
+            (product-row _ _ _ (sum-one b b1 (CARRY-OFF + 63)) (sum-two b b1 (T1 + 63) (T2 + 63)) (compare .1 .1 .1 .0))
             ∙ no-out (b (T1 + 63)) (b (T2 + 63)) (b (CARRY-OFF + 63));
-        equal-mux = product-row _ _ _ (sum-two EQF (EQF + 1)) (sum-one (ZERO + 63)) (mux .0);
-        signed-mux = product-row _ _ _ (sum-two (EQF + 4) (EQF + 5)) (sum-two LTSA LTSB) (mux .1 .0);
-        unsigned-mux = product-row _ _ _ (sum-two (EQF + 6) (EQF + 7)) (sum-three LTUA LTUB) (mux .1 .1 .0);
-        taken = product-row _ _ _ (sum-one (OPBR + 6)) (sum-six CEQ (EQF + 1) CLT (EQF + 5) CLU (EQF + 7)) (last .1 .1 .0 .0);
+        equal-mux = product-row _ _ _ (sum-two b b1 EQF (EQF + 1)) (sum-one b b1 (ZERO + 63)) (mux .0);
+        signed-mux = product-row _ _ _ (sum-two b b1 (EQF + 4) (EQF + 5)) (sum-two b b1 LTSA LTSB) (mux .1 .0);
+        unsigned-mux = product-row _ _ _ (sum-two b b1 (EQF + 6) (EQF + 7)) (sum-three b b1 LTUA LTUB) (mux .1 .1 .0);
+        taken = product-row _ _ _ (sum-one b b1 (OPBR + 6)) (sum-six b b1 CEQ (EQF + 1) CLT (EQF + 5) CLU (EQF + 7)) (last .1 .1 .0 .0);
       }

@@ -7,7 +7,10 @@
 --     Determining     the rows that are solved, and with them the filling of one cycle: `filledBits`
 --     Filling         fillings of a batch, their count, and the filler's: `filled`
 --     Demand3         the statement, clause by clause
--- and the theorems are `demand3` of Proved, `filler-alone` of Alone, `all-fillings` of Count and, of the bench sheet's P6 to P9, `sheet` of Sheet.
+--     Fill            the filler as it is called: `called`
+--     Met             which condition is the first that a cycle does not meet: `firstUnmet`, and as it is called `stepAnswer`
+-- and the theorems are `demand3` of Proved, `filler-alone` of Alone, `all-fillings` of Count, `demand3-of-fill` of Fill.Answers, `meets-all` and
+-- `answer-meets` of Met.First and, of the bench sheet's P6 to P9, `sheet` of Sheet.
 -- The way there, from the ground up:
 -- words of any width (Cases, Numbers, Adder, Compare, Chain); Theorem U (Solvable, Unique, Determining); Theorem C (Families, Determined,
 -- Conditions, Taken, Given); from the field to bits (BinRows, FieldSums, FieldRows, Cycle); the batch (Placed, Count, Batch); the check (Listings,
@@ -18,6 +21,7 @@ pub mod Numbers
 pub mod Adder
 pub mod Compare
 pub mod Chain
+pub mod Sides
 pub mod Branch
 pub mod Step
 pub mod Derived
@@ -42,6 +46,8 @@ pub mod Batch
 pub mod Alone
 pub mod Listings
 pub mod Proved
+pub mod Fill
+pub mod Met
 pub mod Ones
 pub mod FilledRow
 pub mod Sheet

@@ -1,4 +1,4 @@
--- P6 to P9 of the bench sheet, of the check's own result on rows that are filled.
+-- P6 to P9 of the bench sheet, of the filler's and the check's own results, questions included.
 -- Assumes nothing.
 use mathlib.Core.Path.{_≡_, refl, sym, ap, _∙_}
 use mathlib.Core.Bool.{Bool, true, false, cond, _||_, true≢false, false≢true}
@@ -12,6 +12,8 @@ use Rattle.field.specs.Gf as gf
 use Rattle.field.specs.Gf.{ofWords}
 use Rattle.field.specs.Sums.{digit, val}
 use Rattle.layout.specs.Columns.{ONE-COL, RS1, RD, T1, T2, ALU, SUB, WE, IS-LOAD, IS-STORE, IS-ARITH, IS-SHIFT, LD-BYTE, LD-HALF, LD-WORD, RAM-ADDR, FETCH-OP}
+use Rattle.layout.specs.declared.Asked.the-variants.{Yes}
+use Rattle.layout.specs.Batch.{allowed}
 use Rattle.circuit.specs.declared.Relation.the-variants.{Bin, Fld}
 use Rattle.circuit.specs.Rows.{from, fromEach, joined}
 use Rattle.circuit.specs.Circuit.{circuitWords}
@@ -30,7 +32,9 @@ use Rattle.step.specs.Solve.{lacks}
 use Rattle.step.specs.Determining.{beforeHalt, afterHalt, determining}
 use Rattle.step.specs.FieldRows.{upToOne}
 use Rattle.step.specs.Filling.{filled}
-use Rattle.step.specs.Ones.{has, withOnes, withOutput, Holding, holding-ones, holding-output, holding-oneRow, fits, allDerived, allHold, listed-derived, columns-are}
+use Rattle.step.specs.Fill.{called}
+use Rattle.step.specs.Fill.Answers.{fills}
+use Rattle.step.specs.Ones.{has, withOnes, withOutput, Holding, Fits, premises, holding-ones, holding-output, holding-oneRow, fits, allDerived, allHold, listed-derived, columns-are}
 use Rattle.step.specs.FilledRow.{filled-checked, accepted, address-fails, sum-fails, output-fails}
 
 -- ---- the rows: P5's, in which only the one column is 1, with 1 in more columns
@@ -65,11 +69,12 @@ column-numbers = record { address = refl; sum = refl; system = refl; more = refl
 
 -- ---- the sheet
 
--- what the check gives on a row filled, over the house listing and with any scratch of 3,072 words: a verdict, and zeros in the scratch
-abbrev pub Gives : List ℕ → Verdict → Type 0
-Gives row v =
-    (scratch : List ℕ) → length scratch ≡ 3072
-    → checked 1 circuitWords (filled 1 row) scratch ≡ record { answer = Judged v; scratch = replicate 3072 0 }
+-- the filler as called says yes and leaves the row filled, on which the check as called, over the house listing and with any scratch of 3,072
+-- words, gives a verdict, and zeros in the scratch
+pub record Gives (row : List ℕ) (v : Verdict) : Type 0 where
+  pub fill : called 1 row ≡ record { answer = Yes; batch = filled 1 row }
+  pub check : (scratch : List ℕ) → length scratch ≡ 3072
+      → checked 1 circuitWords (filled 1 row) scratch ≡ record { answer = Judged v; scratch = replicate 3072 0 }
 
 -- P6: the derived columns that hold 1, of which 1024..1087 are 64
 abbrev pub derivedOnes : List ℕ
@@ -120,8 +125,13 @@ ones-solve : allHold (has (derivedOnes ++ (ONE-COL ∷ []))) determining ≡ tru
 unfolding allHold has lacks sumBits determining beforeHalt afterHalt from fromEach joined
 ones-solve = refl
 
-gives : (cs : List ℕ) (n : ℕ) (row : List ℕ) → Holding cs n row → (v : Verdict) → judged 1 circuitWords (filled 1 row) ≡ v → Gives row v
-gives cs n row h v e scratch room = filled-checked row scratch (h .words) room ∙ ap (λ w. record { answer = Judged w; scratch = replicate 3072 0 }) e
+gives : (cs : List ℕ) (n : ℕ) (row : List ℕ) → Holding cs n row → Fits cs n → (v : Verdict) → judged 1 circuitWords (filled 1 row) ≡ v → Gives row v
+unfolding allowed
+gives cs n row h t v e =
+    record {
+      fill = fills 1 row refl (premises cs n row h t);
+      check = λ scratch room. filled-checked row scratch (h .words) room ∙ ap (λ w. record { answer = Judged w; scratch = replicate 3072 0 }) e;
+    }
 
 -- P5's row with 1 in the columns xs, and n in the public element
 module _ (xs : List ℕ) (t : upToOne xs ≡ true) where
@@ -150,24 +160,24 @@ sheet =
     record {
       p6 =
           let h = holding-oneRow in
-          gives _ 0 _ h _ (accepted _ 0 _ h (fits _ _ refl) (calm _ 0 refl refl refl refl refl refl refl refl refl refl (λ _. refl)));
+          gives _ 0 _ h (fits _ _ refl) _ (accepted _ 0 _ h (fits _ _ refl) (calm _ 0 refl refl refl refl refl refl refl refl refl refl (λ _. refl)));
       p6-ones = λ c e.
           let d = listed-derived derivedOnes ones-derived c e in (d, p6-derived c d ∙ ap (λ (k : Bool). bitOf k) e);
       p6-zeros = λ c e d. p6-derived c d ∙ ap (λ (k : Bool). bitOf k) e;
       p7-store =
-          let h = with-ones (IS-STORE ∷ addressOnes) refl in gives _ 0 _ h _ (address-fails _ 0 _ h (fits _ _ refl) refl refl);
+          let h = with-ones (IS-STORE ∷ addressOnes) refl in gives _ 0 _ h (fits _ _ refl) _ (address-fails _ 0 _ h (fits _ _ refl) refl refl);
       p7-load-store =
           let h = with-ones (IS-LOAD ∷ IS-STORE ∷ addressOnes) refl in
-          gives _ 0 _ h _ (accepted _ 0 _ h (fits _ _ refl) (calm _ 0 refl refl refl refl refl refl refl refl refl refl (λ e. absurd (false≢true e))));
+          gives _ 0 _ h (fits _ _ refl) _ (accepted _ 0 _ h (fits _ _ refl) (calm _ 0 refl refl refl refl refl refl refl refl refl refl (λ e. absurd (false≢true e))));
       p8-alu-0 =
           let h = with-ones sumOnes refl in
-          gives _ 0 _ h _ (accepted _ 0 _ h (fits _ _ refl) (calm _ 0 refl refl refl refl refl refl refl refl refl refl (λ _. refl)));
+          gives _ 0 _ h (fits _ _ refl) _ (accepted _ 0 _ h (fits _ _ refl) (calm _ 0 refl refl refl refl refl refl refl refl refl refl (λ _. refl)));
       p8-alu-1 =
-          let h = with-ones (ALU ∷ sumOnes) refl in gives _ 0 _ h _ (sum-fails _ 0 _ h (fits _ _ refl) refl refl refl refl refl);
+          let h = with-ones (ALU ∷ sumOnes) refl in gives _ 0 _ h (fits _ _ refl) _ (sum-fails _ 0 _ h (fits _ _ refl) refl refl refl refl refl);
       p9-output-5 =
           let h = with-output systemOnes refl 5 in
-          gives _ 5 _ h _ (accepted _ 5 _ h (fits _ _ refl) (calm _ 5 refl refl refl refl refl refl refl refl refl refl (λ _. refl)));
+          gives _ 5 _ h (fits _ _ refl) _ (accepted _ 5 _ h (fits _ _ refl) (calm _ 5 refl refl refl refl refl refl refl refl refl refl (λ _. refl)));
       p9-output-6 =
           let h = with-output systemOnes refl 6 in
-          gives _ 6 _ h _ (output-fails _ 6 _ h (fits _ _ refl) refl refl refl refl refl (λ e. omega arith));
+          gives _ 6 _ h (fits _ _ refl) _ (output-fails _ 6 _ h (fits _ _ refl) refl refl refl refl refl (λ e. omega arith));
     }

@@ -1,1 +1,5 @@
-// The step conditions and the filling: so far their theory, in specs/.
+// The step conditions and the filling.
+pub mod conditions;
+mod derive;
+pub mod fill;
+mod words;

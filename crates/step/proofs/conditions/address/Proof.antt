@@ -1,0 +1,14 @@
+-- `step::conditions::address` meets its contract: just one of load and store is their exclusive or.
+-- Assumes nothing.
+use borrow.Author.Needs.{needs}
+use Rattle.step.proofs.conditions.address.Statement.{statement}
+use Rattle.step.proofs.conditions.address.Tie as tie
+
+xor-requires : tie.Need-xor-requires
+xor-requires c κs = search needs
+
+returns : tie.Need-returns
+returns c = cc
+
+pub address-spec : {M : Type 1} → statement M
+address-spec = tie.close (tie.spec xor-requires returns)

@@ -1,0 +1,76 @@
+-- Words with one bit of eight set, or one of each four: which lane an offset or funct3 is. By computing every case.
+-- Assumes nothing.
+use mathlib.Core.Path.{_≡_, refl, sym, subst}
+use mathlib.Core.Logic.{⊎-elim}
+use mathlib.Core.Bool.{Bool, true, false, not, _&&_}
+use Prim.Native.Nat.{ℕ, zero, suc, _+_, _*_, _%_, _^_, _<_}
+use native.Mathlib.Nat.{le-of-suc-le-suc, not-suc-le-zero, eq-or-lt-of-le}
+use native.Mathlib.Omega.{arith}
+use lib.Pow.{pow-lt, pow-mono}
+use Rattle.layout.specs.Questions.{both}
+use Rattle.step.specs.Words.{_⊻_}
+use Rattle.step.specs.Cases.{xor-cancel}
+use Rattle.step.specs.Chain.{alike}
+use Rattle.step.specs.Fill.Bits.{bitAt}
+
+-- bit x alone
+abbrev pub hot : ℕ → ℕ
+hot x = 2 ^ x
+
+-- bits x and x + 4, modulo 8: those of the two low bits of x
+abbrev pub pair : ℕ → ℕ
+pair x = 17 * 2 ^ (x % 4)
+
+-- the lane after, modulo 8
+abbrev pub next : ℕ → ℕ
+next x = (x + 1) % 8
+
+pub hot-lt : (x : ℕ) → x < 8 → hot x < 2 ^ 8
+hot-lt x l = pow-lt l
+
+pub pair-lt : (x : ℕ) → pair x < 2 ^ 8
+pair-lt x = omega (arith, pow-mono {i = x % 4} {j = 3} (omega arith))
+
+-- ---- a test of every number below n
+
+abbrev pub allBelow : ℕ → (ℕ → Bool) → Bool
+allBelow zero f = true
+allBelow (suc n) f = f n && allBelow n f
+
+pub below-at : (n : ℕ) (f : ℕ → Bool) → allBelow n f ≡ true → (i : ℕ) → i < n → f i ≡ true
+below-at zero f t i l = absurd (not-suc-le-zero l)
+below-at (suc n) f t i l =
+    let p = both (f n) (allBelow n f) t in
+    ⊎-elim (λ e. subst (λ (k : ℕ). f k ≡ true) (sym e) (p .0)) (λ k. below-at n f (p .1) i k) (eq-or-lt-of-le (le-of-suc-le-suc l))
+
+pub same-below : (n : ℕ) (f g : ℕ → Bool) → allBelow n (λ i. not (f i ⊻ g i)) ≡ true → (i : ℕ) → i < n → f i ≡ g i
+same-below n f g t i l = xor-cancel (f i) (g i) (flip (f i ⊻ g i) (below-at n (λ i. not (f i ⊻ g i)) t i l))
+  where
+    flip : (b : Bool) → not b ≡ true → b ≡ false
+    flip true e = sym e
+    flip false e = refl
+
+-- ---- the bits, for every x and every lane
+
+module _ (f g : ℕ → ℕ → Bool) (t : allBelow 8 (λ x. allBelow 8 λ i. not (f x i ⊻ g x i)) ≡ true) where
+  by-lanes : (x i : ℕ) → x < 8 → i < 8 → f x i ≡ g x i
+  by-lanes x i l m = same-below 8 (f x) (g x) (below-at 8 (λ x. allBelow 8 λ i. not (f x i ⊻ g x i)) t x l) i m
+
+-- the low two bits of two numbers agree, or the third
+abbrev pub lowAgree : ℕ → ℕ → Bool
+lowAgree x i = alike (bitAt x 0) (bitAt i 0) && alike (bitAt x 1) (bitAt i 1)
+
+abbrev pub thirdAgrees : ℕ → ℕ → Bool
+thirdAgrees x i = alike (bitAt x 2) (bitAt i 2)
+
+pub pair-bit : (x i : ℕ) → x < 8 → i < 8 → bitAt (pair x) i ≡ lowAgree x i
+pair-bit = by-lanes _ _ refl
+
+pub hot-bit : (x i : ℕ) → x < 8 → i < 8 → bitAt (hot x) i ≡ (bitAt (pair x) i && thirdAgrees x i)
+hot-bit = by-lanes _ _ refl
+
+pub pair-next : (x i : ℕ) → x < 8 → i < 8 → bitAt (pair (next x)) i ≡ lowAgree x ((i + 7) % 8)
+pair-next = by-lanes _ _ refl
+
+pub hot-next : (x i : ℕ) → x < 8 → i < 8 → bitAt (hot (next x)) i ≡ (bitAt (pair (next x)) i && thirdAgrees x ((i + 7) % 8))
+hot-next = by-lanes _ _ refl

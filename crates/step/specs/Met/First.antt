@@ -1,0 +1,129 @@
+-- The answer: it says that all conditions are met exactly when the record of the conditions holds, and the condition that it names is the first
+-- that is not met.
+-- Assumes nothing.
+use mathlib.Core.Path.{_≡_, refl, sym, ap, _∙_}
+use mathlib.Core.Logic.{_↔_, Iff·trans}
+use mathlib.Core.Bool.{Bool, true, false, not, cond}
+use mathlib.Core.List.{List}
+use Prim.Native.Nat.{ℕ, zero, suc, _+_, _≤_, _<_}
+use native.Mathlib.Omega.{arith}
+use borrow.Author.Tests.{lt-ltb, ltb-true, ltb-false, not-true, not-false}
+use lib.Dec.{ltb}
+use Rattle.field.specs.declared.Gf128.{Gf128}
+use Rattle.layout.specs.declared.Asked.the-variants.{Yes}
+use Rattle.layout.specs.Columns.{ONE-COL}
+use Rattle.layout.specs.Questions.{no, passed}
+use Rattle.verdict.specs.Row.{cycleOf}
+use Rattle.verdict.specs.Bits.{firstFrom, first-passes, first-least}
+use Rattle.step.specs.Words.{bitsOf}
+use Rattle.step.specs.Step.{Step}
+use Rattle.step.specs.declared.conditions.StepAnswer.the-variants.{Meets, Unmet, Refused}
+use Rattle.step.specs.Fill.{fillAsked}
+use Rattle.step.specs.Met.{named, firstFalse, firstUnmet, ifAsked, ifInside, stepAnswer}
+use Rattle.step.specs.Met.Each as each
+
+-- a search starts at its first number
+first-from : (test : ℕ → Bool) (n i : ℕ) → i ≤ firstFrom test i n
+unfolding firstFrom
+first-from test zero i = omega arith
+first-from test (suc n) i = go (test i) (first-from test n (i + 1))
+  where
+    go : (t : Bool) → i + 1 ≤ firstFrom test (i + 1) n → i ≤ cond t i (firstFrom test (i + 1) n)
+    go true h = omega arith
+    go false h = omega arith
+
+-- which number an answer names
+none-named : (n : ℕ) → named n ≡ Meets → 10 < n
+none-named n e = go (ltb n 11) refl e
+  where
+    go : (t : Bool) → ltb n 11 ≡ t → cond t (Unmet n) Meets ≡ Meets → 10 < n
+    go true q f = let z : _≡_ {A = ℕ} 0 1 = cc in absurd (omega arith)
+    go false q f = ltb-false n 11 q
+
+one-named : (n k : ℕ) → named n ≡ Unmet k → (n ≡ k) × (n ≤ 10)
+one-named n k e = go (ltb n 11) refl e
+  where
+    go : (t : Bool) → ltb n 11 ≡ t → cond t (Unmet n) Meets ≡ Unmet k → (n ≡ k) × (n ≤ 10)
+    go true q f = (cc, omega (arith, ltb-true n 11 q))
+    go false q f = let z : _≡_ {A = ℕ} 0 1 = cc in absurd (omega arith)
+
+module _ (b : ℕ → Bool) (output : Gf128) where
+  abbrev met : ℕ → Bool
+  met k = each.met b output k
+
+  -- what the answer says where it names condition k: that one is not met, and those before it are
+  pub record FirstUnmet (k : ℕ) : Type 0 where
+    pub number : (1 ≤ k) × (k ≤ 10)
+    pub unmet : met k ≡ false
+    pub before : (i : ℕ) → 1 ≤ i → i < k → met i ≡ true
+
+  abbrev fails : ℕ → Bool
+  fails k = not (met k)
+
+  abbrev first : ℕ
+  first = firstFrom fails 1 10
+
+  met-before : (i : ℕ) → 1 ≤ i → i < first → met i ≡ true
+  met-before i l m = not-false (met i) (first-least fails 10 1 i l m)
+
+  pub names-first : (k : ℕ) → firstUnmet b output ≡ Unmet k → FirstUnmet k
+  unfolding firstUnmet firstFalse
+  names-first k e =
+      let n = one-named first k e in
+      record {
+        number = (omega (arith, n .0, first-from fails 10 1), omega (arith, n .0, n .1));
+        unmet = ap met (sym (n .0)) ∙ not-true (met first) (first-passes fails 10 1 (omega (arith, n .1)));
+        before = λ i l m. met-before i l (omega (arith, n .0));
+      }
+
+  all-met : firstUnmet b output ≡ Meets → (i : ℕ) → 1 ≤ i → i ≤ 10 → met i ≡ true
+  unfolding firstUnmet firstFalse
+  all-met e i l m = met-before i l (omega (arith, none-named first e))
+
+  -- it says that all are met exactly when the record holds
+  pub meets-all : (firstUnmet b output ≡ Meets) ↔ Step b output
+  unfolding firstUnmet firstFalse firstFrom
+  meets-all = (
+    λ e.
+        let m = all-met e in let n = each.each-met b output in
+        record {
+          arithmetic = n .arithmetic .0 (m 1 (omega arith) (omega arith));
+          shift = n .shift .0 (m 2 (omega arith) (omega arith));
+          write = n .write .0 (m 3 (omega arith) (omega arith));
+          system = n .system .0 (m 4 (omega arith) (omega arith));
+          load-word = n .load-word .0 (m 5 (omega arith) (omega arith));
+          load-byte = n .load-byte .0 (m 6 (omega arith) (omega arith));
+          load-half = n .load-half .0 (m 7 (omega arith) (omega arith));
+          upper-zero = n .upper-zero .0 (m 8 (omega arith) (omega arith));
+          second-zero = n .second-zero .0 (m 9 (omega arith) (omega arith));
+          address = n .address .0 (m 10 (omega arith) (omega arith));
+        },
+    λ s.
+        let n = each.each-met b output in
+        rw (
+          n .arithmetic .1 (s .arithmetic),
+          n .shift .1 (s .shift),
+          n .write .1 (s .write),
+          n .system .1 (s .system),
+          n .load-word .1 (s .load-word),
+          n .load-byte .1 (s .load-byte),
+          n .load-half .1 (s .load-half),
+          n .upper-zero .1 (s .upper-zero),
+          n .second-zero .1 (s .second-zero),
+          n .address .1 (s .address),
+        ),
+  )
+
+-- ---- as it is called, where the questions were answered with yes
+
+module _ (cpi : ℕ) (batch : List ℕ) (d : ℕ) (yes : fillAsked cpi batch ≡ Yes) (inside : d < cpi) where
+  pub answer-is : stepAnswer cpi batch d ≡ firstUnmet (bitsOf cpi batch d) (cycleOf cpi batch d (ONE-COL + 1))
+  unfolding stepAnswer
+  answer-is = ap (λ q. ifAsked q (ifInside cpi batch d)) yes ∙ sym (passed _ _ (Refused (no 15 0)) (lt-ltb d cpi inside))
+
+  pub answer-meets : (stepAnswer cpi batch d ≡ Meets) ↔ Step (bitsOf cpi batch d) (cycleOf cpi batch d (ONE-COL + 1))
+  answer-meets =
+      Iff·trans (λ e. sym answer-is ∙ e, λ e. answer-is ∙ e) (meets-all (bitsOf cpi batch d) (cycleOf cpi batch d (ONE-COL + 1)))
+
+  pub answer-names : (k : ℕ) → stepAnswer cpi batch d ≡ Unmet k → FirstUnmet (bitsOf cpi batch d) (cycleOf cpi batch d (ONE-COL + 1)) k
+  answer-names k e = names-first (bitsOf cpi batch d) (cycleOf cpi batch d (ONE-COL + 1)) k (sym answer-is ∙ e)
