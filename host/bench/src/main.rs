@@ -22,6 +22,16 @@ const CHECKS: [(usize, usize, usize); 3] = [(1, 16, 2001), (16, 4, 401), (256, 1
 
 const MULTIPLICATIONS: usize = 2001;
 
+/// The derived columns, by document 01.
+const DERIVED: [std::ops::RangeInclusive<usize>; 6] = [
+    448..=511,
+    576..=767,
+    773..=773,
+    779..=779,
+    896..=953,
+    1024..=1126,
+];
+
 const SCRATCH_WORDS: usize = 3072;
 const ROWS: usize = 514;
 
@@ -46,6 +56,12 @@ fn main() -> ExitCode {
     let best = time_mul(&Operands::bits());
     line("`mul`, operands 0 and 1, one word", "ns", best);
     println!("{NOTES}");
+    println!("\n| the filler, which the original has not | unit | `check_row` | `fill` | `check_row` / `fill` | best of |");
+    println!("|---|---|---:|---:|---:|---:|");
+    for (cpi, batches, repetitions) in CHECKS {
+        let best = time_fill(cpi, batches, repetitions);
+        line(&format!("cpi {cpi}"), "µs a cycle", best);
+    }
     ExitCode::SUCCESS
 }
 
@@ -89,6 +105,45 @@ fn time_check(cpi: usize, batches: usize, repetitions: usize) -> Best {
             }
         },
     )
+}
+
+/// Seconds a cycle of the product's `fill`, in the place of `product`, beside its own `check_row`, in
+/// the place of `original`. The derived columns hold 1 before the first turn, and the original's after.
+fn time_fill(cpi: usize, batches: usize, repetitions: usize) -> Best {
+    let accepted = Accepted::new(cpi, batches);
+    let listing = inputs::listing();
+    let mut scratch = vec![0; SCRATCH_WORDS];
+    let mut filled = accepted.words.clone();
+    for words in &mut filled {
+        for column in DERIVED.into_iter().flatten() {
+            for cycle in 0..cpi {
+                words[2 * (column * cpi + cycle)] = 1;
+            }
+        }
+    }
+    assert!(filled != accepted.words, "there is nothing to fill");
+    let units = cpi * batches;
+    let best = both(
+        Work { units, repetitions },
+        || {
+            for words in &accepted.words {
+                let words = black_box(&words[..]);
+                let rows = product::check_row(cpi, &listing, words, &mut scratch);
+                assert_eq!(rows, (ROWS * cpi) as u64, "the product does not accept");
+            }
+        },
+        || {
+            for words in &mut filled {
+                let answer = product::fill(cpi, black_box(&mut words[..]));
+                assert_eq!(answer, 0, "the filler refuses");
+            }
+        },
+    );
+    assert!(
+        filled == accepted.words,
+        "the filling is not the original's"
+    );
+    best
 }
 
 /// Seconds a row of the product's C boundary, beside the original's check of one cycle.

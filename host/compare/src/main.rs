@@ -7,6 +7,7 @@
 mod batch;
 mod columns;
 mod field;
+mod filler;
 mod house;
 mod layout;
 mod listing;
@@ -28,11 +29,13 @@ fn main() -> ExitCode {
     );
     println!("pseudo-random numbers from seed {:#x}", numbers::SEED);
     println!("batches to be judged: {}", verdict::batches_judged());
+    println!("batches to be filled: {}", filler::batches_filled());
     let mut tests = field::tests();
     tests.extend(columns::tests());
     tests.extend(layout::tests());
     tests.extend(listing::tests());
     tests.extend(batch::tests());
     tests.extend(verdict::tests());
+    tests.extend(filler::tests());
     report::run_all(&tests)
 }

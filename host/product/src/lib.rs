@@ -44,6 +44,13 @@ mod c {
             out_len: usize,
         ) -> u64;
         pub fn compare_bit_test(cpi: usize, batch: *const u64, batch_len: usize) -> u64;
+        pub fn compare_fill(cpi: usize, batch: *mut u64, batch_len: usize) -> u64;
+        pub fn compare_first_unmet(
+            cpi: usize,
+            batch: *const u64,
+            batch_len: usize,
+            cycle: usize,
+        ) -> u64;
     }
 }
 
@@ -180,6 +187,17 @@ pub fn apply(
 /// column. Refused: 2^63 + number · 2^32.
 pub fn bit_test(cpi: usize, batch: &[u64]) -> u64 {
     unsafe { c::compare_bit_test(cpi, batch.as_ptr(), batch.len()) }
+}
+
+/// Writes the derived columns of a batch and returns 0. Refused: 2^63 + number · 2^32 + place.
+pub fn fill(cpi: usize, batch: &mut [u64]) -> u64 {
+    unsafe { c::compare_fill(cpi, batch.as_mut_ptr(), batch.len()) }
+}
+
+/// The first of the ten step conditions that a cycle does not meet, 1 to 10; 0 where it meets them
+/// all. Refused: 2^63 + number · 2^32 + place.
+pub fn first_unmet(cpi: usize, batch: &[u64], cycle: usize) -> u64 {
+    unsafe { c::compare_first_unmet(cpi, batch.as_ptr(), batch.len(), cycle) }
 }
 
 /// A refusal crosses the boundary as 2^63 + number.

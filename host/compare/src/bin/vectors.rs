@@ -44,6 +44,9 @@ fn main() {
     columns();
     checks(1);
     checks(4);
+    println!("# From here on batches with one given column changed, filled by the product; the verdicts are the original's.");
+    fillings(1);
+    fillings(4);
 }
 
 fn field() {
@@ -138,6 +141,43 @@ fn checks(cpi: usize) {
             z[column] = before;
             put(column, before);
         }
+    }
+}
+
+/// Batches of the program's cycles with one given column changed, filled by the product.
+fn fillings(cpi: usize) {
+    let spec = build_circuit_batched(cpi);
+    let mut numbers = Numbers(0xf111 + cpi as u64);
+    for accepted in accepted_batches(cpi) {
+        for _ in 0..3 {
+            let mut z = accepted.clone();
+            let column = given_column(&mut numbers) * cpi + numbers.next() as usize % cpi;
+            z[column] = z[column] + ONE;
+            fill(&mut z, cpi);
+            set_up(&z, cpi);
+            verdict(&spec, &z, cpi);
+        }
+    }
+}
+
+fn given_column(numbers: &mut Numbers) -> usize {
+    loop {
+        let column = numbers.next() as usize % WITNESS_LAYOUT::USED;
+        let derived = matches!(column, 448..=511 | 576..=767 | 773 | 779 | 896..=953 | 1024..=1126);
+        if !derived {
+            return column;
+        }
+    }
+}
+
+fn fill(z: &mut [Gf128], cpi: usize) {
+    let mut words: Vec<u64> = z
+        .iter()
+        .flat_map(|element| [element.0 as u64, (element.0 >> 64) as u64])
+        .collect();
+    assert_eq!(product::fill(cpi, &mut words), 0, "the filler refuses");
+    for (element, words) in z.iter_mut().zip(words.chunks_exact(2)) {
+        element.0 = u128::from(words[0]) | u128::from(words[1]) << 64;
     }
 }
 

@@ -1,4 +1,5 @@
-//! The numbers that the check, the sums and the bit test answer with, as the boundary writes them.
+//! The numbers that the check, the sums, the bit test and the filler answer with, as the boundary
+//! writes them.
 
 use crate::house::Relation;
 
@@ -14,6 +15,8 @@ pub const MUST_BE_ZERO: u64 = 7;
 pub const NO_MARK: u64 = 8;
 pub const MARK_ORDER: u64 = 9;
 pub const TERM_ORDER: u64 = 10;
+pub const GIVEN_BIT: u64 = 11;
+pub const ONE: u64 = 12;
 pub const ROW_SOUGHT: u64 = 13;
 pub const CYCLE: u64 = 15;
 

@@ -1,16 +1,16 @@
 //! The check, the sums of a row and the bit test.
 
-mod answer;
+pub mod answer;
 mod any_listing;
-mod batches;
+pub mod batches;
 mod bits;
 mod boundary;
 mod circuit;
-mod constraints;
+pub mod constraints;
 mod each_row;
 mod instructions;
-mod judge;
-mod lent;
+pub mod judge;
+pub mod lent;
 mod listings;
 mod programs;
 mod refusals;
