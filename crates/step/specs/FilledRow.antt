@@ -3,8 +3,8 @@
 -- Assumes nothing.
 use mathlib.Core.Path.{_≡_, refl, sym, ap, ap₂, subst, _∙_}
 use mathlib.Core.Bool.{Bool, true, false, not, _&&_, and-false, true≢false, false≢true}
-use mathlib.Core.List.{List, [], _∷_, _++_, map}
-use Prim.Native.Nat.{ℕ, suc, _+_, _*_}
+use mathlib.Core.List.{List, [], _∷_, _++_}
+use Prim.Native.Nat.{ℕ, _+_, _*_}
 use native.Mathlib.Omega.{arith}
 use borrow.Author.Tests.{eq-eqb}
 use lib.ListN.{length, replicate, drop, length-append}
@@ -14,10 +14,9 @@ use Rattle.field.specs.Gf.Laws.{words-injective}
 use Rattle.layout.specs.Columns.{ONE-COL, RD, T1, T2, ALU, SUB, WE, IS-LOAD, IS-STORE, IS-ARITH, LD-HALF, LD-WORD, RAM-ADDR, FETCH-OP, WNL, ZE16, ZE8}
 use Rattle.layout.specs.Batch.{allowed}
 use Rattle.layout.specs.Questions.{passed, refused}
-use Rattle.circuit.specs.declared.Relation.{Relation}
 use Rattle.circuit.specs.declared.Relation.the-variants.{Bin, Fld}
 use Rattle.circuit.specs.Rows.{Sides, Row, from, fromEach, joined, numbered}
-use Rattle.circuit.specs.Circuit.{adderRow, copyRows, addressRow, extensionRow, agreeRow, sumRow, firstCarryRow, outputRow, binFamilies, fldFamilies, circuitRows, circuitWords}
+use Rattle.circuit.specs.Circuit.{adderRow, copyRows, addressRow, extensionRow, agreeRow, sumRow, firstCarryRow, outputRow, binFamilies, circuitRows, circuitWords}
 use Rattle.circuit.specs.Parse.{rowsOf}
 use Rattle.circuit.specs.Batched.{batchRow}
 use Rattle.circuit.specs.House.{words-read, in-order, counts}
@@ -26,26 +25,27 @@ use Rattle.verdict.specs.declared.CheckAnswer.the-variants.{Judged}
 use Rattle.verdict.specs.Row.{cycleOf, holds}
 use Rattle.verdict.specs.OverBits.{plain}
 use Rattle.verdict.specs.Depends.{named}
-use Rattle.verdict.specs.Check.{Constraint, inCycle, ofRelation, constraints, met, run, judged, asked, after, checked}
+use Rattle.verdict.specs.Check.{Constraint, constraints, met, run, judged, asked, after, checked}
 use Rattle.verdict.specs.Verdicts.{All, all-append, Met, run-past, accepts}
 use Rattle.step.specs.Words.{_⊻_, word, bitsOf}
 use Rattle.step.specs.Cases.{no-true}
 use Rattle.step.specs.Step.{Step, opcode}
 use Rattle.step.specs.Derived.{derived}
 use Rattle.step.specs.Solve.{Holds}
-use Rattle.step.specs.Families.{all-joined, all-from, all-numbered}
+use Rattle.step.specs.Families.{all-joined, all-from}
 use Rattle.step.specs.Determining.{beforeHalt, determiningFamilies, determining}
 use Rattle.step.specs.Determined.{Determined}
 use Rattle.step.specs.Given.{SameGiven, same-word}
 use Rattle.step.specs.BinRows.{address-row, extension-row, one-halt, bin-parts}
 use Rattle.step.specs.FieldRows.{bin-row, agree-row, sum-row, output-row}
-use Rattle.step.specs.Cycle.{OfBits, allOverBits, all-bin}
+use Rattle.step.specs.Cycle.{OfBits, all-bin}
 use Rattle.step.specs.Filling.{fillerBits, filled}
 use Rattle.step.specs.Placed.{filling-length}
 use Rattle.step.specs.Demand3.{Premises}
 use Rattle.step.specs.Batch.{same-given, same-public, of-bits, filled-meets, filled-determined, rows-or-conditions}
 use Rattle.step.specs.Listings.{cycle-rows, house}
 use Rattle.step.specs.Ones.{has, Holding, Fits, bits-are, output-is, premises}
+use Rattle.step.specs.CycleOrder.{at, rowsIn, beforeAddress, bins, beforeSum, beforeOutput, address-at, sum-at, output-at, bins-count, rows-count, bins-over-bits, rows-met}
 
 -- ---- every question is answered with yes
 
@@ -61,63 +61,6 @@ filled-checked row scratch words room =
     let e = passed _ _ _ (eq-eqb (length (filled 1 row)) (8192 * 1) (filled-length row ∙ words)) in
     ap (λ q. after q v scratch) (sym (sym in-order ∙ passed _ _ _ (eq-eqb (length scratch) 3072 room) ∙ e))
     ∙ ap (λ n. record { answer = Judged v; scratch = replicate n 0 }) room
-
--- ---- the constraints of cycle 0, in their order
-
-abbrev at : Relation → ℕ → Sides → Constraint
-at rel n s = inCycle 0 (record { relation = rel; number = n; sides = s })
-
-abbrev rowsIn : Relation → List Sides → List Constraint
-rowsIn rel ss = map (inCycle 0) (numbered rel 0 ss)
-
--- the rows before the first of RAM address, and all of bin
-beforeAddress : List Sides
-beforeAddress = from 0 63 adderRow ++ fromEach 0 64 copyRows
-
-bins : List Constraint
-bins = rowsIn Bin (joined binFamilies)
-
--- the fld rows before the adder's, and before the first of halt
-abbrev beforeSum : List Sides
-beforeSum = agreeRow 64 WNL ALU RD ∷ []
-
-abbrev beforeOutput : List Sides
-beforeOutput = agreeRow 64 WNL ALU RD ∷ sumRow ∷ firstCarryRow ∷ []
-
-address-at : constraints 1 circuitRows ≡ rowsIn Bin beforeAddress ++ (at Bin 255 (addressRow 0) ∷ drop 256 (constraints 1 circuitRows))
-unfolding constraints ofRelation circuitRows binFamilies fldFamilies from fromEach joined numbered beforeAddress
-address-at = refl
-
-sum-at : constraints 1 circuitRows ≡ (bins ++ rowsIn Fld beforeSum) ++ (at Fld 1 sumRow ∷ drop 485 (constraints 1 circuitRows))
-unfolding constraints ofRelation circuitRows binFamilies fldFamilies from fromEach joined numbered bins
-sum-at = refl
-
-output-at : constraints 1 circuitRows ≡ (bins ++ rowsIn Fld beforeOutput) ++ (at Fld 3 outputRow ∷ drop 487 (constraints 1 circuitRows))
-unfolding constraints ofRelation circuitRows binFamilies fldFamilies from fromEach joined numbered bins
-output-at = refl
-
-bins-count : length bins ≡ 483
-unfolding bins binFamilies from fromEach joined numbered
-bins-count = refl
-
-rows-count : (rel : Relation) (ss : List Sides) → length (rowsIn rel ss) ≡ length ss
-unfolding numbered
-rows-count rel ss = go 0 ss
-  where
-    go : (n : ℕ) (ss : List Sides) → length (map (inCycle 0) (numbered rel n ss)) ≡ length ss
-    go n [] = refl
-    go n (s ∷ ss) = ap suc (go (suc n) ss)
-
-bins-over-bits : allOverBits (joined binFamilies) ≡ true
-unfolding binFamilies from fromEach joined plain named
-bins-over-bits = refl
-
-rows-met : (view : ℕ → ℕ → Gf128) (rel : Relation) (ss : List Sides) → All (λ s. holds (view 0) s ≡ true) ss → Met (met view) (rowsIn rel ss)
-rows-met view rel ss h = mapped (numbered rel 0 ss) (all-numbered (λ s. holds (view 0) s ≡ true) rel 0 ss .1 h)
-  where
-    mapped : (rs : List Row) → All (λ r. holds (view 0) (r .sides) ≡ true) rs → Met (met view) (map (inCycle 0) rs)
-    mapped [] h = tt
-    mapped (r ∷ rs) h = (h .0, mapped rs (h .1))
 
 not-same : (k : Bool) → not k ≡ k → ⊥
 not-same true e = false≢true e

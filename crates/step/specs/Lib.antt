@@ -14,7 +14,7 @@
 -- The way there, from the ground up:
 -- words of any width (Cases, Numbers, Adder, Compare, Chain); Theorem U (Solvable, Unique, Determining); Theorem C (Families, Determined,
 -- Conditions, Taken, Given); from the field to bits (BinRows, FieldSums, FieldRows, Cycle); the batch (Placed, Count, Batch); the check (Listings,
--- Proved); the bench sheet's rows (Ones, FilledRow).
+-- Proved); the bench sheet's rows (Ones, CycleOrder, FilledRow).
 pub mod Words
 pub mod Cases
 pub mod Numbers
@@ -49,5 +49,6 @@ pub mod Proved
 pub mod Fill
 pub mod Met
 pub mod Ones
+pub mod CycleOrder
 pub mod FilledRow
 pub mod Sheet
