@@ -5,5 +5,6 @@ pub mod Parse
 pub mod Valid
 pub mod Found
 pub mod Search
+pub mod Reader
 pub mod Batched
 pub mod House

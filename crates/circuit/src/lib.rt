@@ -1,6 +1,8 @@
-// The constraint listing: its words, the rows that they stand for, the house listing, its questions, and the search for a row.
+// The constraint listing: its words, the rows that they stand for, the house listing, its questions, the search for a row, and the
+// listing reader.
 pub mod batch;
 pub mod questions;
+pub mod reader;
 pub mod search;
 mod table;
 pub mod words;

@@ -2,8 +2,8 @@
 use crate::Relation;
 use layout::Refusal;
 ghost use mathlib.Core.Path.{_≡_};
-ghost use Prim.Native.Nat.{_+_, _≤_};
-ghost use lib.ListN.{length, drop};
+ghost use Prim.Native.Nat.{_+_, _-_, _≤_};
+ghost use lib.ListN.{length, take, drop};
 ghost use Rattle.circuit.specs.Words.{isMark, markWord};
 ghost use Rattle.circuit.specs.Found.{until, isWord, rowsACycle, found, partOf};
 
@@ -79,13 +79,35 @@ pub fn find_row(listing: &[u32], relation: Relation, row: usize) -> Found
     })
 }
 
+// The words from start on, up to but not including end, as far as the listing has them.
+fn words_between<'a>(listing: &'a [u32], start: usize, end: usize) -> &'a [u32]
+    ensures { λ r. ⌜ now r ≡ take (end - start) (drop start (now (listing .entry))) ⌝ }
+{
+    if end <= start {
+        return &listing[0..0];
+    }
+    if listing.len() <= start {
+        return &listing[0..0];
+    }
+    if listing.len() < end {
+        return &listing[start..];
+    }
+    &listing[start..end]
+}
+
+// The words of a place that was found, and none where it was not.
+pub fn part_at<'a>(listing: &'a [u32], place: Found) -> &'a [u32]
+    ensures { λ r. ⌜ now r ≡ partOf place (now (listing .entry)) ⌝ }
+{
+    match place {
+        Found::At { start, end } => words_between(listing, start, end),
+        Found::Refused(_) => &listing[0..0],
+    }
+}
+
 // The row's mark with its terms, as a part of the listing; no words where the listing lacks the row.
 pub fn row_part<'a>(listing: &'a [u32], relation: Relation, row: usize) -> &'a [u32]
     ensures { λ r. ⌜ now r ≡ partOf (found (now (listing .entry)) relation row) (now (listing .entry)) ⌝ }
 {
-    let place = find_row(listing, relation, row);
-    match place {
-        Found::At { start, end } => &listing[start..end],
-        Found::Refused(_) => &listing[0..0],
-    }
+    part_at(listing, find_row(listing, relation, row))
 }
