@@ -25,16 +25,17 @@ half P A B S r true false l e m x y = is-ltb true A B (λ _. omega arith) (λ q.
 half P A B S r false true l e m x y = is-ltb false A B (λ q. absurd (false≢true q)) (λ _. omega arith)
 half P A B S r false false l e m x y = absurd (omega arith)
 
-less-flipped : (P A B : ℕ) → A < P → B < P → ltb A B ≡ ltb (P - suc B) (P - suc A)
+pub less-flipped : (P A B : ℕ) → A < P → B < P → ltb A B ≡ ltb (P - suc B) (P - suc A)
 less-flipped P A B l m =
     is-ltb (ltb A B) (P - suc B) (P - suc A) (λ e. let k : A < B = ltb-true A B e in omega arith)
     (λ e. let k : B ≤ A = ltb-false A B e in omega arith)
 
-signed-pos : (n x : ℕ) → x < 2 ^ n → signed n x ≡ pos x
+-- a word below 2^n, and one from there on, as signed numbers
+pub signed-pos : (n x : ℕ) → x < 2 ^ n → signed n x ≡ pos x
 unfolding signed
 signed-pos n x l = ap (λ (t : Bool). cond t (pos x) (negsuc (2 ^ suc n - suc x))) (lt-ltb x (2 ^ n) l)
 
-signed-neg : (n x : ℕ) → 2 ^ n ≤ x → signed n x ≡ negsuc (2 ^ suc n - suc x)
+pub signed-neg : (n x : ℕ) → 2 ^ n ≤ x → signed n x ≡ negsuc (2 ^ suc n - suc x)
 unfolding signed
 signed-neg n x l = ap (λ (t : Bool). cond t (pos x) (negsuc (2 ^ suc n - suc x))) (le-ltb x (2 ^ n) l)
 

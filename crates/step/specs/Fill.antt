@@ -50,14 +50,14 @@ fillAsked cpi batch =
     (No (no 2 0)))
     (No (no 1 0))
 
--- the answer and the batch afterwards: a yes leaves the filler's, a no what was there
+-- the answer and the batch afterwards: a yes leaves what was made, a no what was there
 pub record Called : Type 0 where
   pub answer : Asked
   pub batch : List ℕ
 
-abbrev pub after : Asked → ℕ → List ℕ → Called
-after Yes cpi batch = record { answer = Yes; batch = filled cpi batch }
-after (No r) cpi batch = record { answer = No r; batch = batch }
+abbrev pub after : Asked → List ℕ → List ℕ → Called
+after Yes made there = record { answer = Yes; batch = made }
+after (No r) made there = record { answer = No r; batch = there }
 
 unfoldable pub called : ℕ → List ℕ → Called
-called cpi batch = after (fillAsked cpi batch) cpi batch
+called cpi batch = after (fillAsked cpi batch) (filled cpi batch) batch

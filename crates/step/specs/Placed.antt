@@ -26,7 +26,7 @@ use Rattle.step.specs.Filling.{NotDerived, SameElsewhere, put, putEach, 
 
 -- ---- one column put
 
-bit-words : (v : Bool) → ofWords (digit v) 0 ≡ bitOf v
+pub bit-words : (v : Bool) → ofWords (digit v) 0 ≡ bitOf v
 bit-words true = words-one
 bit-words false = words-zero
 
@@ -127,7 +127,7 @@ module _ (cpi : ℕ) (v : ℕ → Bool) (w : List ℕ) where
 -- ---- what is a filling
 
 -- equal elements, equal words
-by-elements : (u w : List ℕ) → length u ≡ length w → ((x : ℕ) → elementAt u x ≡ elementAt w x) → u ≡ w
+pub by-elements : (u w : List ℕ) → length u ≡ length w → ((x : ℕ) → elementAt u x ≡ elementAt w x) → u ≡ w
 by-elements u w l h = ext-getD 0 u w l (λ i m. go i (i % 2) refl)
   where
     same : (x : ℕ) → (getD u (2 * x) 0 ≡ getD w (2 * x) 0) × (getD u (2 * x + 1) 0 ≡ getD w (2 * x + 1) 0)

@@ -1,7 +1,7 @@
 // Which of the ten step conditions is the first that a cycle does not meet (document 01, "Step conditions").
-use crate::derive::nth;
+use crate::bits::nth;
+use crate::bits::xor;
 use crate::derive::word_of;
-use crate::derive::xor;
 use crate::fill::ask;
 use crate::words::element;
 use crate::words::read_word;

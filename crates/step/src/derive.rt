@@ -1,4 +1,6 @@
-// The derived columns of a cycle, worked out by words.
+// The derived columns of a cycle, worked out by words. The row maker calls this, too.
+use crate::bits::nth;
+use crate::bits::xor;
 ghost use mathlib.Core.Path.{_≡_};
 ghost use mathlib.Core.Bool.{_&&_};
 ghost use mathlib.Core.List.{[], _∷_};
@@ -32,23 +34,23 @@ pub struct DerivedWords {
 }
 
 // The flags that gates are made of: write the destination, load, and how much a load takes.
-struct Flags {
-    write: bool,
-    load: bool,
-    byte: bool,
-    half: bool,
-    whole: bool,
+pub struct Flags {
+    pub write: bool,
+    pub load: bool,
+    pub byte: bool,
+    pub half: bool,
+    pub whole: bool,
 }
 
 // Bit 63 of each word that the comparisons read.
-struct Tops {
-    rs1: bool,
-    rs2: bool,
-    alu: bool,
-    t1: bool,
-    t2: bool,
-    carry: bool,
-    zero: bool,
+pub struct Tops {
+    pub rs1: bool,
+    pub rs2: bool,
+    pub alu: bool,
+    pub t1: bool,
+    pub t2: bool,
+    pub carry: bool,
+    pub zero: bool,
 }
 
 // The carries into each bit of a + b + s: what the sum has beside the bits of its addends.
@@ -67,23 +69,10 @@ fn run_word(x: u64) -> u64
     std::num::wrapping_add_u64(x, 0xffff_ffff_ffff_ffff) & !x
 }
 
-pub fn nth(w: u64, k: u64) -> bool
-    requires { ⌜ k < 64 ⌝ }
-    ensures { λ r. ⌜ r ≡ bitAt w k ⌝ }
-{
-    (w >> k) % 2 == 1
-}
-
 pub fn word_of(b: bool) -> u64
     ensures { λ r. ⌜ (r ≡ digit b) × (r < 2) ⌝ }
 {
     if b { 1 } else { 0 }
-}
-
-pub fn xor(a: bool, b: bool) -> bool
-    ensures { λ r. ⌜ r ≡ a ⊻ b ⌝ }
-{
-    a ^ b
 }
 
 // Bit x alone.

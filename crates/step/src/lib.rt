@@ -1,5 +1,6 @@
 // The step conditions and the filling.
+mod bits;
 pub mod conditions;
-mod derive;
+pub mod derive;
 pub mod fill;
 mod words;

@@ -79,3 +79,11 @@ module _ (test : ℕ → Bool) where
           → k < cond b i (firstFrom test (i + 1) n) → test k ≡ false
       by-test true e later h = absurd (omega arith)
       by-test false e later h = ⊎-elim (λ q. ap test (sym q) ∙ e) (λ g. later (omega arith) h) (eq-or-lt-of-le l)
+
+  -- where none passes, it ends
+  pub first-none : (n i : ℕ) → ((k : ℕ) → i ≤ k → k < i + n → test k ≡ false) → firstFrom test i n ≡ i + n
+  unfolding firstFrom
+  first-none zero i h = sym (add-zero i)
+  first-none (suc n) i h =
+      ap (λ (b : Bool). cond b i (firstFrom test (i + 1) n)) (h i (omega arith) (omega arith))
+      ∙ first-none n (i + 1) (λ k l m. h k (omega arith) (omega arith)) ∙ omega arith

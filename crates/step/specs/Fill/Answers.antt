@@ -35,6 +35,11 @@ pub record Passed (cpi : ℕ) (batch : List ℕ) : Type 0 where
   pub bits : 2048 * cpi ≤ firstFaulty cpi batch
   pub one-is : elementAt batch (2048 * cpi) ≡ one
 
+-- a call that answered yes
+pub after-yes : (a : Asked) (made there u : List ℕ) → after a made there ≡ record { answer = Yes; batch = u } → (a ≡ Yes) × (u ≡ made)
+after-yes Yes made there u e = (refl, ap (λ (c : Called). c .batch) (sym e))
+after-yes (No r) made there u e = let q = ap (λ (c : Called). c .answer) e in let z : _≡_ {A = ℕ} 0 1 = cc in absurd (omega arith)
+
 module _ (cpi : ℕ) (batch : List ℕ) where
   pub all-passed : fillAsked cpi batch ≡ Yes → Passed cpi batch
   unfolding fillAsked
@@ -96,16 +101,12 @@ module _ (cpi : ℕ) (batch : List ℕ) where
   -- so of every batch that demand 3 speaks of it makes the filling
   pub fills : allowed cpi ≡ true → Premises cpi batch → called cpi batch ≡ record { answer = Yes; batch = filled cpi batch }
   unfolding called
-  fills size p = ap (λ (a : Asked). after a cpi batch) (passed-all (passes size p))
-
-  after-yes : (a : Asked) (u : List ℕ) → after a cpi batch ≡ record { answer = Yes; batch = u } → (a ≡ Yes) × (u ≡ filled cpi batch)
-  after-yes Yes u e = (refl, ap (λ (c : Called). c .batch) (sym e))
-  after-yes (No r) u e = let q = ap (λ (c : Called). c .answer) e in let z : _≡_ {A = ℕ} 0 1 = cc in absurd (omega arith)
+  fills size p = ap (λ (a : Asked). after a (filled cpi batch) batch) (passed-all (passes size p))
 
   -- Demand 3 of the filler as it is called, of a slice as it is lent: where it answers yes, it leaves the batch of which all is said
   pub demand3-of-fill : (u scratch : List ℕ) → called cpi batch ≡ record { answer = Yes; batch = u } → ((i : ℕ) → getD batch i 0 < 2 ^ 64)
       → length scratch ≡ 3072 → (u ≡ filled cpi batch) × Demand3 circuitWords Step cpi batch scratch
   unfolding called
   demand3-of-fill u scratch e fit room =
-      let a = after-yes (fillAsked cpi batch) u e in let p = all-passed (a .0) in
+      let a = after-yes (fillAsked cpi batch) (filled cpi batch) batch u e in let p = all-passed (a .0) in
       (a .1, demand3 cpi (p .size) batch scratch room (premises p fit))

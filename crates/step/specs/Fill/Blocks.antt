@@ -6,6 +6,7 @@ use mathlib.Core.Bool.{Bool, true, false, _&&_, _||_, or-true, false≢true}
 use mathlib.Core.List.{List, [], _∷_}
 use Prim.Native.Nat.{ℕ, zero, suc, _+_, _*_, _-_, _≤_, _<_}
 use native.Mathlib.Nat.{add-right-cancel, eq-of-mul-eq-mul-right, eq-or-lt-of-le, le-of-suc-le-suc, not-suc-le-zero}
+use native.Mathlib.Decide.{ℕ-discrete}
 use native.Mathlib.Omega.{arith}
 use borrow.Author.Tests.{leb-true, ltb-true, le-leb, lt-ltb}
 use lib.Arith.{digits-lt}
@@ -16,7 +17,7 @@ use Rattle.layout.specs.Questions.{both}
 use Rattle.verdict.specs.Row.{elementAt}
 use Rattle.verdict.specs.OverBits.{bitOf}
 use Rattle.step.specs.Filling.{put, putEach}
-use Rattle.step.specs.Placed.{each-length, each-other, each-here}
+use Rattle.step.specs.Placed.{each-length, each-other, each-here, by-elements}
 use Rattle.step.specs.Batch.{as-bit}
 use Rattle.step.specs.Fill.Bits.{bitAt}
 
@@ -174,3 +175,26 @@ module _ (cpi d : ℕ) (l : d < cpi) where
       (λ q. let p = in-block k c q in let i = c - k .column in
       subst (λ (x : ℕ). elementAt batch (x * cpi + d) ≡ bitOf (eqb (low (elementAt batch (x * cpi + d))) 1)) (omega arith) (as-bit (bitAt (k .word) i) (h .0 i (omega arith))))
       (holds-bit ks batch (h .1) c) (one-of (inBlock k c) (inBlocks ks c) e)
+
+  -- what stands there already changes nothing
+  put-again : (b : List ℕ) (x : ℕ) (v : Bool) → 2 * x + 1 < length b → elementAt b x ≡ bitOf v → put b x v ≡ b
+  put-again b x v l e = by-elements (put b x v) b (put-length b x v) (λ c. go c (ℕ-discrete c x))
+    where
+      go : (c : ℕ) → Dec (c ≡ x) → elementAt (put b x v) c ≡ elementAt b c
+      go c (yes q) = ap (elementAt (put b x v)) q ∙ put-here b x v l ∙ sym e ∙ ap (elementAt b) (sym q)
+      go c (no f) = put-elsewhere b x c v f
+
+  word-again : (o w n : ℕ) (b : List ℕ) → length b ≡ 8192 * cpi → o + n ≤ 2048
+      → ((i : ℕ) → i < n → elementAt b ((o + i) * cpi + d) ≡ bitOf (bitAt w i)) → putWord cpi d o w n b ≡ b
+  unfolding putWord
+  word-again o w zero b s f h = refl
+  word-again o w (suc n) b s f h =
+      ap (λ (u : List ℕ). put u ((o + n) * cpi + d) (bitAt w n)) (word-again o w n b s (omega arith) (λ i m. h i (omega arith)))
+      ∙ put-again b ((o + n) * cpi + d) (bitAt w n) (omega (arith, digits-lt {q = o + n} {m = 2048} {r = d} {c = cpi} (omega arith) l)) (h n (omega arith))
+
+  pub blocks-again : (ks : List Block) (o : ℕ) (b : List ℕ) → length b ≡ 8192 * cpi → ordered o ks ≡ true → EachBlock (Written b) ks → putBlocks cpi d ks b ≡ b
+  blocks-again [] o b s t h = refl
+  blocks-again (k ∷ ks) o b s t h =
+      let r = then-ordered o k ks t in
+      ap (putBlocks cpi d ks) (word-again (k .column) (k .word) (k .width) b s (ordered-below ks (k .column + k .width) r) (h .0))
+      ∙ blocks-again ks (k .column + k .width) b s r (h .1)

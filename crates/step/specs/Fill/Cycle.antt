@@ -38,7 +38,7 @@ use Rattle.step.specs.Fill.Words.{wordAt, givenWords, flagsOf, topsOf, l
 -- ---- the two computed tests: the blocks are in order, and are the derived columns
 
 module _ (g : GivenWords) (w : DerivedWords) where
-  blocks-ordered : ordered 0 (blocks g w) ≡ true
+  pub blocks-ordered : ordered 0 (blocks g w) ≡ true
   blocks-ordered = refl
 
   blocks-are-derived : (c : ℕ) → c < 2048 → derived c ≡ inBlocks (blocks g w) c

@@ -6,6 +6,7 @@ use Prim.Native.Nat.{ℕ}
 use borrow.Author.Needs.{needs}
 use Rattle.layout.specs.declared.Asked.the-variants.{Yes}
 use Rattle.layout.specs.declared.Asked.{Asked}
+use Rattle.step.specs.Filling.{filled}
 use Rattle.step.specs.Fill.{after, called}
 use Rattle.step.specs.Fill.Answers.{all-passed}
 use Rattle.step.proofs.fill.fill.Statement.{statement}
@@ -31,7 +32,7 @@ returns : tie.Need-returns
 unfolding called
 returns c =
     let k = c .before .before .before in let a = k .before .before .before .args in
-    ap (λ (q : Asked). after q (a .cpi) (a .batch .now)) (sym (c .before .asked .given .1) ∙ k .ask .ensures)
+    ap (λ (q : Asked). after q (filled (a .cpi) (a .batch .now)) (a .batch .now)) (sym (c .before .asked .given .1) ∙ k .ask .ensures)
 
 same-length-2 : tie.Need-same-length-2
 same-length-2 c = search needs
@@ -41,7 +42,7 @@ unfolding called
 returns-2 c =
     let f = c .before .before in let t = f .before .before in let k = t .before .before in let a = k .before .before .before .args in
     ap (λ (b : List ℕ). record { answer = Yes; batch = b }) (f .fill-cycles .ensures)
-    ∙ ap (λ (q : Asked). after q (a .cpi) (a .batch .now)) (sym (t .enum-told .given .1) ∙ k .ask .ensures)
+    ∙ ap (λ (q : Asked). after q (filled (a .cpi) (a .batch .now)) (a .batch .now)) (sym (t .enum-told .given .1) ∙ k .ask .ensures)
 
 pub fill-spec : {M : Type 1} → statement M
 fill-spec =

@@ -1,0 +1,75 @@
+-- What is true of every made row: its elements, that it is bits below the one column, and that filling it changes nothing where the record's
+-- halt and taken are what the filler would write.
+-- Assumes nothing.
+use mathlib.Core.Path.{_≡_, refl, sym, ap, ap₂, _∙_}
+use mathlib.Core.Bool.{true, false, not}
+use mathlib.Core.List.{List}
+use Prim.Native.Nat.{ℕ, _+_, _*_, _-_, _/_, _%_, _≤_, _<_}
+use native.Mathlib.Omega.{arith}
+use borrow.Author.Tests.{eq-eqb, ne-eqb, le-ltb}
+use lib.Dec.{eqb, ltb}
+use lib.ListN.{length}
+use Rattle.field.specs.declared.Gf128.{Gf128}
+use Rattle.field.specs.Gf as gf
+use Rattle.field.specs.Gf.{ofWords, isBit}
+use Rattle.field.specs.Gf.Tests.{isBit-bit}
+use Rattle.field.specs.Sums.{digit}
+use Rattle.layout.specs.Batch.{allowed}
+use Rattle.layout.specs.Questions.{passed, refused}
+use Rattle.verdict.specs.declared.bits.BitAnswer.the-variants.{AllBits}
+use Rattle.verdict.specs.Row.{elementAt}
+use Rattle.verdict.specs.OverBits.{bitOf}
+use Rattle.verdict.specs.Bits.{firstFrom, aboveOne, bitTested, first-none}
+use Rattle.step.specs.Placed.{bit-words}
+use Rattle.witness.specs.declared.records.CycleRecord.{CycleRecord}
+use Rattle.witness.specs.declared.records.RomRow.{RomRow}
+use Rattle.witness.specs.Written.{length-from}
+use Rattle.witness.specs.Halves.{lower-at, one-at, value-at, rest-at}
+use Rattle.witness.specs.Row.{rowBit, bitWord, rowWord, madeRow}
+
+module _ (r : CycleRecord) (m : RomRow) (public : List ℕ) where
+  abbrev pub row : List ℕ
+  row = madeRow r m public
+
+  pub row-length : length row ≡ 8192
+  unfolding madeRow
+  row-length = length-from (rowWord (rowBit r m) public) 8192 0
+
+  -- ---- its elements
+
+  -- below the one column, the table's bit
+  pub bit-at : (c : ℕ) → c < 2048 → elementAt row c ≡ bitOf (rowBit r m c)
+  unfolding madeRow bitWord
+  bit-at c l =
+      let here = lower-at 8192 2048 refl (bitWord (rowBit r m)) public in
+      let even : eqb (2 * c % 2) 0 ≡ true = eq-eqb (2 * c % 2) 0 (omega arith) in
+      let odd : eqb ((2 * c + 1) % 2) 0 ≡ false = ne-eqb ((2 * c + 1) % 2) 0 (λ e. omega arith) in
+      let column : 2 * c / 2 ≡ c = omega arith in
+      ap₂ ofWords
+      (here (2 * c) (omega arith) ∙ sym (passed _ _ _ even) ∙ ap (λ (x : ℕ). digit (rowBit r m x)) column)
+      (here (2 * c + 1) (omega arith) ∙ sym (refused _ _ _ odd))
+      ∙ bit-words (rowBit r m c)
+
+  pub one-is : elementAt row 2048 ≡ gf.one
+  unfolding madeRow
+  one-is = one-at 8192 2048 refl (bitWord (rowBit r m)) public (omega arith)
+
+  -- public value j stands at one_col + 1 + j, and behind them all is 0
+  pub values : (j : ℕ) → 2049 + j < 4096 → elementAt row (2049 + j) ≡ elementAt public j
+  unfolding madeRow
+  values j l = value-at 8192 2048 refl (bitWord (rowBit r m)) public j l
+
+  pub rest : (j : ℕ) → length public ≤ 2 * j → 2049 + j < 4096 → elementAt row (2049 + j) ≡ gf.zero
+  unfolding madeRow
+  rest j l h = rest-at 8192 2048 refl (bitWord (rowBit r m)) public j l h
+
+  -- ---- it is bits below the one column: the bit test says all bits
+
+  pub not-above : (c : ℕ) → c < 2048 → aboveOne row c ≡ false
+  not-above c l = ap (λ (x : Gf128). not (isBit x)) (bit-at c l) ∙ ap not (isBit-bit (rowBit r m c))
+
+  pub all-bits : bitTested 1 row ≡ AllBits
+  unfolding bitTested allowed
+  all-bits =
+      let none : firstFrom (aboveOne row) 0 2048 ≡ 2048 = first-none (aboveOne row) 2048 0 (λ k _ l. not-above k l) in
+      sym (passed _ _ _ (eq-eqb (length row) 8192 row-length)) ∙ sym (refused _ _ _ (ap (λ (n : ℕ). ltb n 2048) none ∙ le-ltb 2048 2048 (omega arith)))

@@ -1,0 +1,154 @@
+-- The row that a cycle's record and its ROM row make: one line a field, with its first column, its width and its value, of which it takes the low
+-- bits. A group is a word of 64 columns; a column that no line has is 0. Halt and taken are the record's.
+-- Assumes nothing.
+use mathlib.Core.Bool.{Bool, true, not, cond, _&&_}
+use mathlib.Core.List.{List, [], _∷_}
+use Prim.Native.Nat.{ℕ, _+_, _-_, _*_, _%_, _^_}
+use lib.Dec.{eqb}
+use Rattle.field.specs.Sums.{digit}
+use Rattle.layout.specs.Columns.{RS1, RS2, RD, LOAD-VAL, SHIFT-OUT, T1, T2, CARRY-OFF, ALU, SHIFT-SRC, STORE-OLD, STORE-SRC, SUB, WE, IS-LOAD, IS-STORE, IS-ARITH, HALT, IS-SHIFT, IS-LOGIC, LD-BYTE, LD-HALF, LD-WORD, TAKEN, OFF, RAM-ADDR, PC, FETCH-OP, FETCH-RD, FETCH-RS1, FETCH-RS2, FETCH-FUNCT3, FETCH-IMM, EQA, PA, EQB, PB, CA, CH, CH2, NH, WNL, ZERO, OPSYS, OPBR, EQFM, EQF, LTSA, LTSB, LTUA, LTUB, CEQ, CLT, CLU, ZE16, ZE8}
+use Rattle.step.specs.Words.{_⊻_}
+use Rattle.step.specs.Fill.Bits.{bitAt}
+use Rattle.step.specs.Fill.Blocks.{Block, block}
+use Rattle.step.specs.Fill.Lanes.{hot, pair, next}
+use Rattle.step.specs.Fill.Derive.{carryWord, runWord, opcodeRun}
+use Rattle.witness.specs.declared.records.CycleRecord.{CycleRecord}
+use Rattle.witness.specs.declared.records.RomRow.{RomRow}
+
+-- the adder subtracts: an arithmetic cycle that is marked so
+abbrev pub subtracts : CycleRecord → Bool
+subtracts r = r .«is_arith» && r .«is_sub_op»
+
+-- its second operand: all 64 bits flipped where it subtracts
+abbrev pub secondOperand : CycleRecord → ℕ
+secondOperand r = cond (subtracts r) (2 ^ 64 - 1 - r .«alu_b») (r .«alu_b»)
+
+-- of an arithmetic cycle the sum that wraps, and `alu_out` is not read
+abbrev pub aluOf : CycleRecord → ℕ
+aluOf r = cond (r .«is_arith») ((r .«alu_a» + secondOperand r + digit (subtracts r)) % 2 ^ 64) (r .«alu_out»)
+
+abbrev pub carryOf : CycleRecord → ℕ
+carryOf r = carryWord (r .«alu_a») (secondOperand r) (digit (subtracts r))
+
+-- rd 0 goes on the bus as 32
+abbrev pub busRd : ℕ → ℕ
+busRd rd = cond (eqb rd 0) 32 rd
+
+-- the top bit of a word
+abbrev top : ℕ → Bool
+top w = bitAt w 63
+
+module _ (r : CycleRecord) (m : RomRow) where
+  -- the lane that a load or store begins at, and the two parts of the instruction that its chains read
+  abbrev pub lane : ℕ
+  lane = r .«byte_offset» % 2 ^ 3
+
+  abbrev pub op : ℕ
+  op = m .raw % 2 ^ 7
+
+  abbrev pub f3 : ℕ
+  f3 = m .funct3 % 2 ^ 3
+
+  -- RS1 is below RS2 by the signs and the difference, and by the carry out of the adder
+  abbrev differ : Bool
+  differ = top (r .«rs1_val») ⊻ top (r .«rs2_val»)
+
+  abbrev lessSigned : Bool
+  lessSigned = (differ && top (r .«rs1_val»)) ⊻ ((differ ⊻ true) && top (aluOf r))
+
+  abbrev bothTops : Bool
+  bothTops = top (r .«alu_a») && top (secondOperand r)
+
+  abbrev carryOn : Bool
+  carryOn = top (carryOf r) && (top (r .«alu_a») ⊻ top (secondOperand r))
+
+  abbrev neitherWidth : Bool
+  neitherWidth = not (r .«ld_word») && not (r .«ld_half»)
+
+  -- funct3 is one of two
+  abbrev is : ℕ → ℕ → Bool
+  is i j = bitAt (hot f3) i ⊻ bitAt (hot f3) j
+
+  abbrev pub flagGroup : List Block
+  flagGroup =
+      block SUB 1 (digit (subtracts r))
+      ∷ block WE 1 (digit (r .we))
+      ∷ block IS-LOAD 1 (digit (r .«is_load»))
+      ∷ block IS-STORE 1 (digit (r .«is_store»))
+      ∷ block IS-ARITH 1 (digit (r .«is_arith»))
+      ∷ block HALT 1 (digit (r .«halted_latch»))
+      ∷ block IS-SHIFT 1 (digit (r .«is_shift»))
+      ∷ block IS-LOGIC 1 (digit (r .«is_logic»))
+      ∷ block LD-BYTE 1 (digit (r .«ld_byte»))
+      ∷ block LD-HALF 1 (digit (r .«ld_half»))
+      ∷ block LD-WORD 1 (digit (r .«ld_word»))
+      ∷ block TAKEN 1 (digit (r .«branch_taken»))
+      ∷ block OFF 3 (r .«byte_offset»)
+      ∷ block RAM-ADDR 8 (r .«ram_addr»)
+      ∷ block PC 8 (r .«micro_pc»)
+      ∷ []
+
+  abbrev pub busGroup : List Block
+  busGroup =
+      block FETCH-OP 7 (m .raw)
+      ∷ block FETCH-RD 6 (busRd (m .rd))
+      ∷ block FETCH-RS1 6 (m .rs1)
+      ∷ block FETCH-RS2 6 (m .rs2)
+      ∷ block FETCH-FUNCT3 3 (m .funct3)
+      ∷ block FETCH-IMM 13 (m .imm)
+      ∷ []
+
+  abbrev pub laneGroup : List Block
+  laneGroup =
+      block EQA 8 (hot lane)
+      ∷ block PA 8 (pair lane)
+      ∷ block EQB 8 (hot (next lane))
+      ∷ block PB 8 (pair (next lane))
+      ∷ block CA 8 (digit (r .«ld_byte») * hot lane)
+      ∷ block CH 8 (digit (r .«ld_half») * hot lane)
+      ∷ block CH2 8 (digit (r .«ld_half») * hot (next lane))
+      ∷ block NH 1 (digit neitherWidth)
+      ∷ block WNL 1 (digit (r .we && not (r .«is_load»)))
+      ∷ []
+
+  abbrev pub branchGroup : List Block
+  branchGroup =
+      block OPSYS 7 (opcodeRun op 0x73)
+      ∷ block OPBR 7 (opcodeRun op 0x63)
+      ∷ block EQFM 8 (pair f3)
+      ∷ block EQF 8 (hot f3)
+      ∷ block LTSA 1 (digit (differ && top (r .«rs1_val»)))
+      ∷ block LTSB 1 (digit ((differ ⊻ true) && top (aluOf r)))
+      ∷ block LTUA 1 (digit bothTops)
+      ∷ block LTUB 1 (digit carryOn)
+      ∷ block CEQ 1 (digit (is 0 1 && top (runWord (aluOf r))))
+      ∷ block CLT 1 (digit (is 4 5 && lessSigned))
+      ∷ block CLU 1 (digit (is 6 7 && (bothTops ⊻ carryOn ⊻ true)))
+      ∷ block ZE16 1 (digit (not (r .«ld_word») && r .«is_load»))
+      ∷ block ZE8 1 (digit (neitherWidth && r .«is_load»))
+      ∷ []
+
+  abbrev alone : ℕ → ℕ → List Block
+  alone column w = block column 64 w ∷ []
+
+  unfoldable pub table : List (List Block)
+  table =
+      alone RS1 (r .«rs1_val»)
+      ∷ alone RS2 (r .«rs2_val»)
+      ∷ alone RD (r .«rd_val»)
+      ∷ alone LOAD-VAL (r .«ram_word»)
+      ∷ alone SHIFT-OUT (r .«shift_out»)
+      ∷ alone T1 (r .«alu_a»)
+      ∷ alone T2 (secondOperand r)
+      ∷ alone CARRY-OFF (carryOf r)
+      ∷ alone ALU (aluOf r)
+      ∷ alone SHIFT-SRC (r .«rs1_val»)
+      ∷ alone STORE-OLD (r .«ram_word»)
+      ∷ alone STORE-SRC (r .«rs2_val»)
+      ∷ flagGroup
+      ∷ busGroup
+      ∷ laneGroup
+      ∷ []
+      ∷ alone ZERO (runWord (aluOf r))
+      ∷ branchGroup
+      ∷ []
