@@ -3,3 +3,4 @@ pub mod Answer
 pub mod Exact
 pub mod Back
 pub mod Sheet
+pub mod BenchSheet

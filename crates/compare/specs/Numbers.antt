@@ -22,6 +22,11 @@ use Rattle.circuit.specs.declared.Coefficient.{Coefficient}
 use Rattle.circuit.specs.declared.Coefficient.the-variants.{Zero, Power}
 use Rattle.circuit.specs.declared.batch.BatchWord.{BatchWord}
 use Rattle.circuit.specs.declared.batch.BatchWord.the-variants.{Row, Term, Refused}
+use Rattle.circuit.specs.declared.search.Found.{Found}
+use Rattle.circuit.specs.declared.search.Found.the-variants.{At as Stands, Refused as NotFound}
+use Rattle.circuit.specs.Valid.{validated}
+use Rattle.circuit.specs.Found.{found}
+use Rattle.circuit.specs.Reader.{admitted, positionAfter}
 use Rattle.verdict.specs.declared.Verdict.{Verdict}
 use Rattle.verdict.specs.declared.Verdict.the-variants.{Accepted, Failed}
 use Rattle.verdict.specs.declared.CheckAnswer.{CheckAnswer}
@@ -37,6 +42,7 @@ use Rattle.layout.specs.declared.Asked.the-variants.{Yes, No}
 use Rattle.step.specs.declared.conditions.StepAnswer.{StepAnswer}
 use Rattle.step.specs.declared.conditions.StepAnswer.the-variants.{Meets, Unmet, Refused as NotAsked}
 use Rattle.step.specs.Fill.{Called}
+use Rattle.compare.specs.declared.reader.TwoRows.{TwoRows}
 
 -- the low word of an element for 0, else the high one
 abbrev pub wordOf : ℕ → Gf128 → ℕ
@@ -149,6 +155,37 @@ abbrev pub stepNumber : StepAnswer → ℕ
 stepNumber Meets = 0
 stepNumber (Unmet k) = k
 stepNumber (NotAsked r) = refusedAt r
+
+-- ---- the listing reader
+
+-- words are opened and asked for a row, and then for another: each is sought in all the words that the reader has
+abbrev pub twoRows : List ℕ → Relation → ℕ → Relation → ℕ → TwoRows
+twoRows ws rel n rel′ n′ = record {
+  asked = validated ws;
+  first = found (admitted (validated ws) ws) rel n;
+  between = positionAfter (found (admitted (validated ws) ws) rel n) 0;
+  second = found (admitted (validated ws) ws) rel′ n′;
+  last = positionAfter (found (admitted (validated ws) ws) rel′ n′) (positionAfter (found (admitted (validated ws) ws) rel n) 0);
+}
+
+-- where a row starts
+abbrev pub startNumber : Found → ℕ
+startNumber (Stands start end) = start
+startNumber (NotFound r) = refusedAt r
+
+-- the index just after its last word, 0 for a refusal
+abbrev pub endNumber : Found → ℕ
+endNumber (Stands start end) = end
+endNumber (NotFound r) = 0
+
+-- six words: of each row its start, its end, and the position afterwards
+abbrev pub rowWords : TwoRows → List ℕ
+rowWords t =
+    startNumber (t .first) ∷ endNumber (t .first) ∷ t .between ∷ startNumber (t .second) ∷ endNumber (t .second) ∷ t .last ∷ []
+
+-- what the opening answered, and the words over the first six; with no room for six nothing is asked, and the answer is 2^63
+abbrev pub readerReply : TwoRows → List ℕ → Reply
+readerReply t out = cond (ltb (length out) 6) (reply (2 ^ 63) out) (reply (askedNumber (t .asked)) (rowWords t ++ drop 6 out))
 
 -- ---- the tables of columns and segments
 

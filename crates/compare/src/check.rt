@@ -73,7 +73,7 @@ pub extern "C" fn compare_check_house(cpi: usize, batch: &[u64]) -> u64
     check_number(verdict::check_house(cpi, batch))
 }
 
-fn chosen_relation(n: u32) -> Relation
+pub fn chosen_relation(n: u32) -> Relation
     ensures { λ r. ⌜ r ≡ chosenRelation n ⌝ }
 {
     if n == 0 { Relation::Bin } else { Relation::Fld }

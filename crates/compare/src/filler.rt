@@ -7,7 +7,7 @@ use crate::check::refused_at;
 use layout::Asked;
 use step::conditions::StepAnswer;
 
-fn asked_number(answer: Asked) -> u64
+pub fn asked_number(answer: Asked) -> u64
     ensures { λ n. ⌜ n ≡ askedNumber answer ⌝ }
 {
     match answer {

@@ -2,6 +2,8 @@
 // the product's C boundary.
 pub mod check;
 pub mod filler;
+pub mod makers;
+pub mod reader;
 pub mod tables;
 
 ghost use mathlib.Core.Path.{_≡_};

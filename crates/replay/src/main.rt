@@ -2,6 +2,7 @@
 mod answers;
 mod batch;
 mod line;
+mod makers;
 
 use libc::STDIN_FILENO;
 use libc::STDOUT_FILENO;
@@ -41,7 +42,49 @@ fn setting(letter: u8, n: [u64; 8], cells: &mut [u64]) -> Outcome {
     Outcome::Wrong
 }
 
-fn mapping(letter: u8, n: [u64; 8], cells: &mut [u64]) -> Outcome {
+// What is lent to the makers.
+fn lending(letter: u8, n: [u64; 8], cells: &mut [u64], lent: &mut [u64]) -> Outcome {
+    if letter == b'r' {
+        makers::put_words(lent, n);
+        return Outcome::Quiet;
+    }
+    if letter == b'W' {
+        batch::put_word(lent, n[0], n[1], n[2]);
+        return Outcome::Quiet;
+    }
+    if letter == b'Z' {
+        batch::clear(lent);
+        return Outcome::Quiet;
+    }
+    setting(letter, n, cells)
+}
+
+fn making(
+    letter: u8,
+    n: [u64; 8],
+    cells: &mut [u64],
+    lent: &mut [u64],
+    made: &mut [u64],
+) -> Outcome {
+    if letter == b't' {
+        return of(makers::branch(n));
+    }
+    if letter == b'v' {
+        return of(makers::row(n, lent, made, cells));
+    }
+    if letter == b'j' {
+        return of(makers::batch(n, lent, made, cells));
+    }
+    lending(letter, n, cells, lent)
+}
+
+fn mapping(
+    letter: u8,
+    n: [u64; 8],
+    cells: &mut [u64],
+    lent: &mut [u64],
+    made: &mut [u64],
+) -> Outcome {
     if letter == b'c' {
         return of(answers::witness_column(n));
     }
@@ -54,10 +97,17 @@ fn mapping(letter: u8, n: [u64; 8], cells: &mut [u64]) -> Outcome {
     if letter == b'g' {
         return of(answers::geometry(n));
     }
-    setting(letter, n, cells)
+    making(letter, n, cells, lent, made)
 }
 
-fn replay(letter: u8, n: [u64; 8], cells: &mut [u64], scratch: &mut [u64]) -> Outcome {
+fn replay(
+    letter: u8,
+    n: [u64; 8],
+    cells: &mut [u64],
+    scratch: &mut [u64],
+    lent: &mut [u64],
+    made: &mut [u64],
+) -> Outcome {
     if letter == b'm' {
         return of(answers::product(n));
     }
@@ -74,7 +124,7 @@ fn replay(letter: u8, n: [u64; 8], cells: &mut [u64], scratch: &mut [u64]) -> Ou
         }
         return Outcome::Wrong;
     }
-    mapping(letter, n, cells)
+    mapping(letter, n, cells, lent, made)
 }
 
 // How many answers were right, and how many others.
@@ -101,7 +151,13 @@ fn counted(t: Tally, o: Outcome) -> Tally
 }
 
 // A text of more than 524,288 bytes is not replayed.
-fn replay_all(text: &[u8], cells: &mut [u64], scratch: &mut [u64]) -> Tally {
+fn replay_all(
+    text: &[u8],
+    cells: &mut [u64],
+    scratch: &mut [u64],
+    lent: &mut [u64],
+    made: &mut [u64],
+) -> Tally {
     let mut tally = Tally { right: 0, wrong: 0 };
     if 524288 < text.len() {
         return tally;
@@ -110,7 +166,10 @@ fn replay_all(text: &[u8], cells: &mut [u64], scratch: &mut [u64]) -> Tally {
     while at < text.len() {
         let line = line::read_line(text, at);
         let numbers = line.numbers;
-        tally = counted(tally, replay(line.letter, numbers, cells, scratch));
+        tally = counted(
+            tally,
+            replay(line.letter, numbers, cells, scratch, lent, made),
+        );
         at = line.next;
     }
     tally
@@ -121,7 +180,9 @@ fn main() {
     let n = io::read_full(STDIN_FILENO, &mut text);
     let mut cells = [0u64; 32768];
     let mut scratch = [0u64; 3072];
-    let tally = replay_all(&text[..n], &mut cells, &mut scratch);
+    let mut lent = [0u64; 32768];
+    let mut made = [0u64; 32768];
+    let tally = replay_all(&text[..n], &mut cells, &mut scratch, &mut lent, &mut made);
     io::print_decimal(STDOUT_FILENO, tally.right);
     io::write_all(STDOUT_FILENO, b" answers as they should be, ");
     io::print_decimal(STDOUT_FILENO, tally.wrong);

@@ -16,6 +16,7 @@ mod original;
 mod parallel;
 mod report;
 mod verdict;
+mod witness;
 
 use std::process::ExitCode;
 
@@ -30,6 +31,7 @@ fn main() -> ExitCode {
     println!("pseudo-random numbers from seed {:#x}", numbers::SEED);
     println!("batches to be judged: {}", verdict::batches_judged());
     println!("batches to be filled: {}", filler::batches_filled());
+    println!("rows to be made: {}", witness::rows_made());
     let mut tests = field::tests();
     tests.extend(columns::tests());
     tests.extend(layout::tests());
@@ -37,5 +39,6 @@ fn main() -> ExitCode {
     tests.extend(batch::tests());
     tests.extend(verdict::tests());
     tests.extend(filler::tests());
+    tests.extend(witness::tests());
     report::run_all(&tests)
 }

@@ -6,7 +6,9 @@ pub use magnetar_cpu::circuit::{
     assemble_instance_z, build_circuit, build_circuit_batched, witness_row, CircuitSpec,
     InstanceGeometry, WITNESS_LAYOUT,
 };
-pub use magnetar_cpu::{execute, expand_program, StreamCursor};
+pub use magnetar_cpu::expand::{RomRow, VirtualKind};
+pub use magnetar_cpu::interp::{CycleRecord, Trace};
+pub use magnetar_cpu::{execute, expand_program, pad_records, StreamCursor};
 pub use magnetar_field::Gf128;
 pub use magnetar_spartan::SparseMatrix;
 

@@ -51,6 +51,26 @@ mod c {
             batch_len: usize,
             cycle: usize,
         ) -> u64;
+        pub fn compare_witness_row(
+            record: *const u64,
+            record_len: usize,
+            rom_row: *const u64,
+            rom_row_len: usize,
+            public: *const u64,
+            public_len: usize,
+            row: *mut u64,
+            row_len: usize,
+        ) -> u64;
+        pub fn compare_assemble(
+            cpi: usize,
+            cycles: *const u64,
+            cycles_len: usize,
+            public: *const u64,
+            public_len: usize,
+            batch: *mut u64,
+            batch_len: usize,
+        ) -> u64;
+        pub fn compare_read_branch(opcode: u32, funct3: u32, rs1: u64, rs2: u64) -> u64;
     }
 }
 
@@ -198,6 +218,44 @@ pub fn fill(cpi: usize, batch: &mut [u64]) -> u64 {
 /// all. Refused: 2^63 + number · 2^32 + place.
 pub fn first_unmet(cpi: usize, batch: &[u64], cycle: usize) -> u64 {
     unsafe { c::compare_first_unmet(cpi, batch.as_ptr(), batch.len(), cycle) }
+}
+
+/// Writes the row of a cycle and returns 0. Refused: 2^63 + number · 2^32, or 2^63 alone for a record
+/// of fewer than 30 words or a ROM row of fewer than 8. A record is the words of the original's
+/// `CycleRecord` in the order of its fields, a ROM row kind, stage, rd, rs1, rs2, funct3, imm and raw.
+pub fn witness_row(record: &[u64], rom_row: &[u64], public: &[u64], row: &mut [u64]) -> u64 {
+    unsafe {
+        c::compare_witness_row(
+            record.as_ptr(),
+            record.len(),
+            rom_row.as_ptr(),
+            rom_row.len(),
+            public.as_ptr(),
+            public.len(),
+            row.as_mut_ptr(),
+            row.len(),
+        )
+    }
+}
+
+/// Puts cycles and public values together in a batch and returns 0. Refused: 2^63 + number · 2^32.
+pub fn assemble(cpi: usize, cycles: &[u64], public: &[u64], batch: &mut [u64]) -> u64 {
+    unsafe {
+        c::compare_assemble(
+            cpi,
+            cycles.as_ptr(),
+            cycles.len(),
+            public.as_ptr(),
+            public.len(),
+            batch.as_mut_ptr(),
+            batch.len(),
+        )
+    }
+}
+
+/// 0 for no branch, 1 for a branch that is taken, 2 for one that is not.
+pub fn read_branch(opcode: u32, funct3: u32, rs1: u64, rs2: u64) -> u64 {
+    unsafe { c::compare_read_branch(opcode, funct3, rs1, rs2) }
 }
 
 /// A refusal crosses the boundary as 2^63 + number.

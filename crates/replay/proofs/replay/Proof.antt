@@ -70,6 +70,12 @@ mapping-requires c κs = search needs
 same-length-3 : tie.Need-same-length-3
 same-length-3 c = search needs
 
+same-length-4 : tie.Need-same-length-4
+same-length-4 c = search needs
+
+same-length-5 : tie.Need-same-length-5
+same-length-5 c = search needs
+
 returns-6 : tie.Need-returns-6
 returns-6 c = search needs
 
@@ -98,4 +104,6 @@ replay-spec =
     returns-5
     mapping-requires
     same-length-3
+    same-length-4
+    same-length-5
     returns-6)

@@ -9,11 +9,12 @@ use Rattle.replay.proofs.replay_all.Statement.{statement}
 use Rattle.replay.proofs.replay_all.Tie as tie
 
 abbrev Inv-loop : tie.InvT-loop
-Inv-loop text cells₀ scratch₀ tally₀ at₀ cells scratch tally at =
+Inv-loop text cells₀ scratch₀ lent₀ made₀ tally₀ at₀ cells scratch lent made tally at =
     (at ≤ length text) × (length text ≤ 524288) × (tally .right ≤ at) × (tally .wrong ≤ at) × (length cells ≡ length cells₀) × (length scratch ≡ length scratch₀)
+    × (length lent ≡ length lent₀) × (length made ≡ length made₀)
 
 abbrev μ-loop : tie.MeasureT-loop
-μ-loop text cells₀ scratch₀ tally₀ at₀ cells scratch tally at = length text - at
+μ-loop text cells₀ scratch₀ lent₀ made₀ tally₀ at₀ cells scratch lent made tally at = length text - at
 
 returns : tie.Need-returns Inv-loop μ-loop
 returns c = search needs
@@ -42,6 +43,12 @@ same-length c = search needs
 same-length-2 : tie.Need-same-length-2 Inv-loop μ-loop
 same-length-2 c = search needs
 
+same-length-3 : tie.Need-same-length-3 Inv-loop μ-loop
+same-length-3 c = search needs
+
+same-length-4 : tie.Need-same-length-4 Inv-loop μ-loop
+same-length-4 c = search needs
+
 returns-2 : tie.Need-returns-2 Inv-loop μ-loop
 returns-2 c = search needs
 
@@ -60,4 +67,6 @@ replay-all-spec =
     loop-again
     same-length
     same-length-2
+    same-length-3
+    same-length-4
     returns-2)

@@ -1,9 +1,9 @@
 //! The filler and the test of the ten step conditions. The original has no filler: what is filled
 //! goes before its `check_row`, and before a reading of document 01's conditions in this crate.
 
-mod conditions;
+pub mod conditions;
 mod cycles;
-mod derived;
+pub mod derived;
 mod filled;
 mod flips;
 mod refusals;

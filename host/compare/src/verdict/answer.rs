@@ -9,6 +9,8 @@ const REFUSED: u64 = 1 << 63;
 /// The numbers of document 01's questions, in the order in which they are asked.
 pub const SIZE: u64 = 1;
 pub const BATCH_LENGTH: u64 = 2;
+pub const PUBLIC_LENGTH: u64 = 3;
+pub const CYCLES_LENGTH: u64 = 4;
 pub const SCRATCH_LENGTH: u64 = 5;
 pub const LISTING_LENGTH: u64 = 6;
 pub const MUST_BE_ZERO: u64 = 7;

@@ -44,6 +44,12 @@ pub fn words_of(z: &[Gf128]) -> Vec<u64> {
         .collect()
 }
 
+/// The elements of an even number of words.
+pub fn elements_of(words: &[u64]) -> Vec<Gf128> {
+    let element = |pair: &[u64]| Gf128(u128::from(pair[0]) | u128::from(pair[1]) << 64);
+    words.chunks_exact(2).map(element).collect()
+}
+
 /// Where column c of cycle d stands, by document 01.
 pub fn batch_column(cpi: usize, column: usize, cycle: usize) -> usize {
     if column < WITNESS_COLUMNS {

@@ -61,15 +61,31 @@ impl<T: Guard> Lent<T> {
         self.right[GUARDS + i] = word;
     }
 
+    /// Fills the words before a call, and says what all of them must be after it.
+    pub fn must_become_all(&mut self, before: T, after: &[T]) {
+        assert_eq!(after.len(), self.len());
+        self.words_mut().fill(before);
+        let end = GUARDS + self.len();
+        self.right[GUARDS..end].copy_from_slice(after);
+    }
+
     /// Whether the words and their guards are what they must be. What is not is put right, so that
     /// one fault is not found again in the next call.
     pub fn is_right(&mut self) -> bool {
+        self.first_wrong().is_none()
+    }
+
+    /// The first word that is not what it must be, a guard before the words counted below 0. All
+    /// are put right.
+    pub fn first_wrong(&mut self) -> Option<isize> {
         // Makes the compiler read again what it lent for reading only.
         black_box(&mut self.memory);
-        let right = self.memory == self.right;
-        if !right {
-            self.memory.copy_from_slice(&self.right);
+        if self.memory == self.right {
+            return None;
         }
-        right
+        let pairs = self.memory.iter().zip(&self.right);
+        let first = pairs.take_while(|(word, right)| word == right).count();
+        self.memory.copy_from_slice(&self.right);
+        Some(first as isize - GUARDS as isize)
     }
 }

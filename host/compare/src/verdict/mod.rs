@@ -8,11 +8,11 @@ mod boundary;
 mod circuit;
 pub mod constraints;
 mod each_row;
-mod instructions;
+pub mod instructions;
 pub mod judge;
 pub mod lent;
 mod listings;
-mod programs;
+pub mod programs;
 mod refusals;
 mod sums;
 

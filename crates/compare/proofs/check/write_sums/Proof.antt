@@ -1,6 +1,6 @@
 -- The six words written are the first six of the slice, and no other is touched.
-use mathlib.Core.Path.{_≡_}
-use mathlib.Core.List.{List, [], _∷_, _++_}
+use mathlib.Core.Path.{_≡_, _∙_}
+use mathlib.Core.List.{List, _∷_, _++_}
 use Prim.Native.Nat.{ℕ, _≤_}
 use native.Mathlib.Omega.{arith}
 use borrow.Author.Needs.{needs}
@@ -9,24 +9,19 @@ use lib.ListN.{length, set, drop, length-set}
 use Rattle.field.specs.Gf.{low, high}
 use Rattle.verdict.specs.declared.Sums.{Sums}
 use Rattle.compare.specs.Numbers.{sumWords}
+use Rattle.compare.proofs.FirstSix.{first-six}
 use Rattle.compare.proofs.check.write_sums.Statement.{statement}
 use Rattle.compare.proofs.check.write_sums.Tie as tie
 
 module _ (s : Sums) (p q r t u v : ℕ) (ep : p ≡ low (s .a)) (eq : q ≡ high (s .a)) (er : r ≡ low (s .b)) (et : t ≡ high (s .b))
     (eu : u ≡ low (s .c)) (ev : v ≡ high (s .c)) where
-  first-six : (l : List ℕ) → 6 ≤ length l → set (set (set (set (set (set l 0 p) 1 q) 2 r) 3 t) 4 u) 5 v ≡ sumWords s ++ drop 6 l
-  first-six [] h = absurd (omega arith)
-  first-six (_ ∷ []) h = absurd (omega arith)
-  first-six (_ ∷ _ ∷ []) h = absurd (omega arith)
-  first-six (_ ∷ _ ∷ _ ∷ []) h = absurd (omega arith)
-  first-six (_ ∷ _ ∷ _ ∷ _ ∷ []) h = absurd (omega arith)
-  first-six (_ ∷ _ ∷ _ ∷ _ ∷ _ ∷ []) h = absurd (omega arith)
-  first-six (_ ∷ _ ∷ _ ∷ _ ∷ _ ∷ _ ∷ l) h = cc
+  six-words : (l : List ℕ) → 6 ≤ length l → set (set (set (set (set (set l 0 p) 1 q) 2 r) 3 t) 4 u) 5 v ≡ sumWords s ++ drop 6 l
+  six-words l h = first-six p q r t u v l h ∙ (λ i. ep i ∷ eq i ∷ er i ∷ et i ∷ eu i ∷ ev i ∷ drop 6 l)
 
 sums : tie.Need-returns
 sums c =
     let l = c .before in let h = l .before in let k = h .before in let i = k .before in let j = i .before in let b = j .before .before .before .before .before in
-    first-six (b .args .s) _ _ _ _ _ _ (j .low .ensures) (i .high .ensures) (k .low2 .ensures) (h .high2 .ensures) (l .low3 .ensures) (c .high3 .ensures)
+    six-words (b .args .s) _ _ _ _ _ _ (j .low .ensures) (i .high .ensures) (k .low2 .ensures) (h .high2 .ensures) (l .low3 .ensures) (c .high3 .ensures)
     (now (b .args .out)) (b .pre)
 
 pub write-sums-spec : {M : Type 1} → statement M

@@ -1,6 +1,8 @@
 //! Writes the vector file of the program `replay` to standard output: a sample of the original's answers, so that they are replayed
 //! where the original is not at hand. Refusals, which the original does not have, are document 01's.
 
+mod makers;
+
 use magnetar_cpu::circuit::{
     assemble_instance_z, build_circuit_batched, check_row, witness_row, CircuitSpec, WITNESS_LAYOUT,
 };
@@ -40,6 +42,10 @@ fn main() {
     println!("# g: cpi, w_cols, m, one_col, w128. c z: cpi, column, cycle, batch column. b: cpi, batch column, column, cycle.");
     println!("# 0: all elements of the batch become 0. s: column, low, high. w: 64 columns from one on, so far apart, hold the bits of a word.");
     println!("# k: cpi, the verdict on the batch against the house listing (0 accepted, 1 fails in bin, 2 in fld), batch row, rows.");
+    println!("# r: seven lent words from one on. W: as w, for the lent words. Z: all lent words become 0.");
+    println!("# v: public words, words of the row, the answer, 0 or a refusal; the row of the lent record (words 0 to 29), ROM row (30 to 37) and");
+    println!("# public words (from 40 on) is the batch that is set up. t: opcode, funct3, RS1, RS2, and 0 for no branch, 1 taken, 2 not taken.");
+    println!("# j: cpi, words of the cycles (lent from 0 on), public words (from 4000 on), words of the batch, the answer; it is the batch that is set up.");
     field();
     columns();
     checks(1);
@@ -47,6 +53,10 @@ fn main() {
     println!("# From here on batches with one given column changed, filled by the product; the verdicts are the original's.");
     fillings(1);
     fillings(4);
+    println!("# From here on rows and batches that the original makes, and its branches.");
+    makers::rows();
+    makers::batches();
+    makers::branches();
 }
 
 fn field() {

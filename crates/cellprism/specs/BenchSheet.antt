@@ -1,0 +1,165 @@
+-- The bench sheet of document 01: P1 to P12 as one table, `BenchSheet`, and below it the table's one theorem, `bench-sheet`. Each line speaks of
+-- an operation as it is called, questions and scratch included, by the definition that its contract cites. Each line's proof is the theorem of
+-- the crate where the operation lives.
+-- Assumes nothing.
+use mathlib.Core.Path.{_≡_, refl, sym, ap, ap₂, _∙_}
+use mathlib.Core.Bool.{Bool, true, false, cond}
+use mathlib.Core.List.{List, [], _∷_, _++_}
+use Prim.Native.Nat.{ℕ, _+_, _-_, _*_, _^_, _<_}
+use lib.Dec.{lit<}
+use lib.ListN.{length, take, getD, set, replicate}
+use Rattle.field.specs.Gf.{product, element, ofWords, zero, one}
+use Rattle.field.specs.Gf.Element.{value-words, element-value, element-word}
+use Rattle.field.specs.Gf.Laws.{proper-words}
+use Rattle.field.specs.Gf.Sheet as field
+use Rattle.layout.specs.Columns.{ONE-COL, RS1, RD, T1, ALU, SUB, IS-LOAD, IS-STORE, IS-ARITH, RAM-ADDR, FETCH-OP}
+use Rattle.layout.specs.declared.Asked.the-variants.{Yes}
+use Rattle.layout.specs.declared.GeometryAnswer.the-variants.{Of, Refused}
+use Rattle.layout.specs.declared.ColumnAnswer.the-variants.{At}
+use Rattle.layout.specs.Batch.{geometryOf, mapped}
+use Rattle.layout.specs.Questions.{no}
+use Rattle.layout.specs.Sheet as layout
+use Rattle.circuit.specs.declared.Relation.the-variants.{Bin, Fld}
+use Rattle.circuit.specs.Rows.{from}
+use Rattle.circuit.specs.Circuit.{circuitWords}
+use Rattle.circuit.specs.House as circuit
+use Rattle.verdict.specs.declared.Verdict.{Verdict}
+use Rattle.verdict.specs.declared.Verdict.the-variants.{Accepted, Failed}
+use Rattle.verdict.specs.declared.CheckAnswer.the-variants.{Judged}
+use Rattle.verdict.specs.Row.{elementAt}
+use Rattle.verdict.specs.Check.{checked}
+use Rattle.verdict.specs.Sheet as verdict
+use Rattle.step.specs.Derived.{derived}
+use Rattle.step.specs.Filling.{filled}
+use Rattle.step.specs.Fill.{Called, called}
+use Rattle.step.specs.Ones.{has, withOnes, withOutput}
+use Rattle.step.specs.Sheet.{number, Gives}
+use Rattle.step.specs.Sheet as step
+use Rattle.witness.specs.declared.branch.BranchReading.the-variants.{Taken, NotTaken}
+use Rattle.witness.specs.Reading.{reading}
+use Rattle.witness.specs.Reading as witness
+
+-- ---- the words of the table
+
+-- a row of one cycle is 8,192 words, two an element, the low one first: P4's, all zero, and P5's, in which only the one column is 1. Into P5's
+-- row `withOnes` puts 1 in the columns listed, `number c w n` lists those where n of w bits stands at column c, low bit first, and `withOutput`
+-- puts a number into the first public element after the one column.
+abbrev pub zeroRow : List ℕ
+zeroRow = replicate 8192 0
+
+abbrev pub oneRow : List ℕ
+oneRow = set zeroRow (2 * ONE-COL) 1
+
+-- the check, on a row over the house listing, with whatever stands in 3,072 words of scratch: a verdict, and zeros in the scratch
+abbrev pub Checks : List ℕ → Verdict → Type 0
+Checks row v =
+    (scratch : List ℕ) → length scratch ≡ 3072 → checked 1 circuitWords row scratch ≡ record { answer = Judged v; scratch = replicate 3072 0 }
+
+-- the filler says yes to a row, and the check gives a verdict on the row that it leaves
+pub record Filled (row : List ℕ) (v : Verdict) : Type 0 where
+  pub fill : called 1 row .answer ≡ Yes
+  pub check : Checks (called 1 row .batch) v
+
+-- columns from the first to the last
+abbrev pub columns : ℕ → ℕ → List ℕ
+columns first last = from first (last + 1 - first) (λ c. c)
+
+abbrev pub p6Ones : List ℕ
+p6Ones = 896 ∷ 904 ∷ 908 ∷ 913 ∷ 921 ∷ 925 ∷ 952 ∷ (columns 1024 1087 ++ (1102 ∷ 1106 ∷ 1110 ∷ 1122 ∷ []))
+
+-- ---- the table
+
+pub record BenchSheet : Type 0 where
+  -- P1  2^127 · 2 = 0x87
+  pub p1 : product (element (2 ^ 127)) (element 2) ≡ element 0x87
+  -- P2  2^64 · 2^64 = 0x87
+  pub p2 : product (element (2 ^ 64)) (element (2 ^ 64)) ≡ element 0x87
+  -- P3  2^127 · 2^127: low word 0x1067, high word 0xC000000000000000
+  pub p3 : product (element (2 ^ 127)) (element (2 ^ 127)) ≡ ofWords 0x1067 0xC000000000000000
+  -- P4  all-zero row: accepted, rows 514
+  pub p4 : Checks zeroRow (Accepted 514)
+  -- P5  only the one column 1: bin row 263, rows 264
+  pub p5 : Checks oneRow (Failed Bin 263 264)
+  -- P6  P5's row filled: accepted; the columns listed are derived, and a derived column is 1 where it is listed, else 0
+  pub p6 : Filled oneRow (Accepted 514)
+  pub p6-listed : (c : ℕ) → has p6Ones c ≡ true → derived c ≡ true
+  pub p6-derived : (c : ℕ) → derived c ≡ true → elementAt (called 1 oneRow .batch) c ≡ cond (has p6Ones c) one zero
+  -- P7  P5's row with RAM_ADDR 255, filled: with store, bin 255, rows 256; with load and store, accepted
+  pub p7-store : Filled (withOnes (IS-STORE ∷ number RAM-ADDR 8 255) oneRow) (Failed Bin 255 256)
+  pub p7-load-store : Filled (withOnes (IS-LOAD ∷ IS-STORE ∷ number RAM-ADDR 8 255) oneRow) (Accepted 514)
+  -- P8  T1 = 2^64 - 1, SUB and arithmetic, else P5's, filled: ALU 0 accepted; ALU 1 gives fld 1, rows 485
+  pub p8-alu-0 : Filled (withOnes (number ALU 64 0 ++ (SUB ∷ IS-ARITH ∷ number T1 64 (2 ^ 64 - 1))) oneRow) (Accepted 514)
+  pub p8-alu-1 : Filled (withOnes (number ALU 64 1 ++ (SUB ∷ IS-ARITH ∷ number T1 64 (2 ^ 64 - 1))) oneRow) (Failed Fld 1 485)
+  -- P9  opcode 0x73, RD = RS1 = 5, else P5's, filled: output 5 accepted; 6 gives fld 3, rows 487
+  pub p9-output-5 : Filled (withOutput 5 (withOnes (number FETCH-OP 7 0x73 ++ (number RD 64 5 ++ number RS1 64 5)) oneRow)) (Accepted 514)
+  pub p9-output-6 : Filled (withOutput 6 (withOnes (number FETCH-OP 7 0x73 ++ (number RD 64 5 ++ number RS1 64 5)) oneRow)) (Failed Fld 3 487)
+  -- P10 2^63 against 1: BLT (funct3 4) taken, BLTU (6) not; BGE (5) 7, 7 taken
+  pub p10-blt : reading 0x63 4 (2 ^ 63) 1 ≡ Taken
+  pub p10-bltu : reading 0x63 6 (2 ^ 63) 1 ≡ NotTaken
+  pub p10-bge : reading 0x63 5 7 7 ≡ Taken
+  -- P11 the first words, and the last
+  pub p11-first : take 7 circuitWords ≡ 0xc0000000 ∷ 0x00000140 ∷ 0x000001c0 ∷ 0x40000180 ∷ 0x400001c0 ∷ 0x800001c1 ∷ 0x800001c0 ∷ []
+  pub p11-last : getD circuitWords (length circuitWords - 1) 0 ≡ 0x4000708f
+  -- P12 cpi 4: one_col 8,192, m 16,384, w128 64; column 5 of cycle 2 is 22. cpi 0, 3, 512 give 1
+  pub p12-geometry : geometryOf 4 ≡ Of (record { cpi = 4; «w_cols» = 8192; m = 16384; «one_col» = 8192; w128 = 64 })
+  pub p12-column : mapped 2048 4 5 2 ≡ At 22
+  pub p12-cpi-0 : geometryOf 0 ≡ Refused (no 1 0)
+  pub p12-cpi-3 : geometryOf 3 ≡ Refused (no 1 0)
+  pub p12-cpi-512 : geometryOf 512 ≡ Refused (no 1 0)
+
+-- ---- the theorem
+
+-- the number that two words spell
+spelled : (lo hi : ℕ) → lo < 2 ^ 64 → hi < 2 ^ 64 → element (hi * 2 ^ 64 + lo) ≡ ofWords lo hi
+spelled lo hi l h = ap element (sym (value-words lo hi)) ∙ element-value (proper-words lo hi l h)
+
+two-127 : element (2 ^ 127) ≡ ofWords 0 (2 ^ 63)
+two-127 = spelled 0 (2 ^ 63) (lit< tt) (lit< tt)
+
+two-64 : element (2 ^ 64) ≡ ofWords 0 1
+two-64 = spelled 0 1 (lit< tt) (lit< tt)
+
+-- the filler's row is the one that it leaves
+as-called : {row : List ℕ} {v : Verdict} → Gives row v → Filled row v
+as-called g =
+    record {
+      fill = ap (λ (k : Called). k .answer) (g .fill);
+      check = λ scratch room. ap (λ (k : Called). checked 1 circuitWords (k .batch) scratch) (g .fill) ∙ g .check scratch room;
+    }
+
+one-or-zero : (c : ℕ) → derived c ≡ true → elementAt (called 1 oneRow .batch) c ≡ cond (has p6Ones c) one zero
+one-or-zero c d = ap (λ (k : Called). elementAt (k .batch) c) (step.sheet .p6 .fill) ∙ by-test (has p6Ones c) refl
+  where
+    by-test : (b : Bool) → has p6Ones c ≡ b → elementAt (filled 1 oneRow) c ≡ cond b one zero
+    by-test true e = step.sheet .p6-ones c e .1
+    by-test false e = step.sheet .p6-zeros c e d
+
+pub bench-sheet : BenchSheet
+unfolding number
+bench-sheet =
+    record {
+      p1 = ap₂ product two-127 (element-word (lit< tt)) ∙ field.sheet-holds .0 ∙ sym (element-word (lit< tt));
+      p2 = ap₂ product two-64 two-64 ∙ field.sheet-holds .1 .0 ∙ sym (element-word (lit< tt));
+      p3 = ap₂ product two-127 two-127 ∙ field.sheet-holds .1 .1 .0;
+      p4 = verdict.p4;
+      p5 = verdict.p5;
+      p6 = as-called (step.sheet .p6);
+      p6-listed = λ c e. step.sheet .p6-ones c e .0;
+      p6-derived = one-or-zero;
+      p7-store = as-called (step.sheet .p7-store);
+      p7-load-store = as-called (step.sheet .p7-load-store);
+      p8-alu-0 = as-called (step.sheet .p8-alu-0);
+      p8-alu-1 = as-called (step.sheet .p8-alu-1);
+      p9-output-5 = as-called (step.sheet .p9-output-5);
+      p9-output-6 = as-called (step.sheet .p9-output-6);
+      p10-blt = witness.p10 .blt;
+      p10-bltu = witness.p10 .bltu;
+      p10-bge = witness.p10 .bge;
+      p11-first = circuit.p11 .first;
+      p11-last = ap (λ (n : ℕ). getD circuitWords (n - 1) 0) (circuit.counts .words) ∙ circuit.p11 .last;
+      p12-geometry = layout.p12 .four;
+      p12-column = layout.p12 .column;
+      p12-cpi-0 = layout.p12 .none;
+      p12-cpi-3 = layout.p12 .three;
+      p12-cpi-512 = layout.p12 .large;
+    }
