@@ -1,13 +1,13 @@
--- Words of bytes, piece by piece: a word is two halves, and one word more stands behind those before it.
+-- Words of bytes, piece by piece: a word is two halves, and the words are those at each index.
 -- Assumes nothing.
 use mathlib.Core.Path.{_≡_, refl, sym, ap, _∙_}
-use mathlib.Core.List.{List, [], _∷_, _++_}
-use Prim.Native.Nat.{ℕ, zero, suc, _+_, _*_, _^_, _<_}
+use mathlib.Core.List.{List, [], _∷_}
+use Prim.Native.Nat.{ℕ, zero, suc, _+_, _*_, _^_}
 use native.Mathlib.Omega.{arith}
 use native.Mathlib.Nat.{zero-add, add-zero, suc-add, mul-assoc, pow-succ'}
-use native.Mathlib.Numerals.{add-one}
-use lib.ListN.{length, take, drop, getD, set}
-use lib.Seq.{getD-drop, drop-drop, take-nil, take-all, take-suc-set}
+use lib.ListN.{take, drop, getD}
+use lib.Seq.{getD-drop, drop-drop, take-nil}
+use Rattle.circuit.specs.Rows.{from}
 use Rattle.cellprism.specs.Bytes.{numberOf, wordsOf}
 
 -- where a list ends, `getD` gives 0, and nothing is spelled
@@ -38,19 +38,17 @@ pub word-at : (bytes : List ℕ) (at : ℕ)
     → numberOf (take 8 (drop at bytes)) ≡ numberOf (take 4 (drop at bytes)) + 2 ^ 32 * numberOf (take 4 (drop (at + 4) bytes))
 word-at bytes at = rw (← drop-drop 4 at bytes) (number-split 4 4 (drop at bytes))
 
-words-suc : (i : ℕ) (bytes : List ℕ) → wordsOf (suc i) bytes ≡ wordsOf i bytes ++ (numberOf (take 8 (drop (8 * i) bytes)) ∷ [])
-unfolding wordsOf
-words-suc zero bytes = refl
-words-suc (suc i) bytes =
-    let e : 8 + 8 * i ≡ 8 * suc i = omega arith in
-    ap (λ ws. numberOf (take 8 bytes) ∷ ws)
-    (words-suc i (drop 8 bytes)
-    ∙ ap (λ bs. wordsOf i (drop 8 bytes) ++ (numberOf (take 8 bs) ∷ [])) (drop-drop (8 * i) 8 bytes ∙ ap (λ n. drop n bytes) e))
+-- word k of bytes
+abbrev pub wordIn : List ℕ → ℕ → ℕ
+wordIn bytes k = numberOf (take 8 (drop (8 * k) bytes))
 
--- a store of word i, where those below i stand already
-pub word-more : (bytes words : List ℕ) (i v : ℕ) → i < length words → v ≡ numberOf (take 8 (drop (8 * i) bytes)) → take i words ≡ wordsOf i bytes
-    → take (i + 1) (set words i v) ≡ wordsOf (i + 1) bytes
-word-more bytes words i v h e below = rw (add-one, take-suc-set words i v h, below, e, words-suc)
+words-from : (n i : ℕ) (bytes : List ℕ) → from i n (wordIn bytes) ≡ wordsOf n (drop (8 * i) bytes)
+unfolding wordsOf from
+words-from zero i bytes = refl
+words-from (suc n) i bytes =
+    let e : 8 * suc i ≡ 8 * i + 8 = omega arith in
+    ap (λ ws. wordIn bytes i ∷ ws)
+    (words-from n (suc i) bytes ∙ ap (λ k. wordsOf n (drop k bytes)) e ∙ ap (wordsOf n) (sym (drop-drop 8 (8 * i) bytes)))
 
-pub words-all : (bytes words : List ℕ) (i n : ℕ) → length words ≡ n → i ≡ n → take i words ≡ wordsOf i bytes → words ≡ wordsOf n bytes
-words-all bytes words i n h e below = sym (take-all i words (omega arith)) ∙ below ∙ ap (λ k. wordsOf k bytes) e
+pub words-all : (n : ℕ) (bytes : List ℕ) → from 0 n (wordIn bytes) ≡ wordsOf n bytes
+words-all n bytes = words-from n 0 bytes

@@ -11,7 +11,8 @@ use lib.Dec.{ltb, eqb}
 use lib.ListN.{length, length-append}
 use Rattle.layout.specs.Batch.{allowed}
 use Rattle.layout.specs.Questions.{no, both}
-use Rattle.circuit.specs.Rows.{Row, from, fromEach, joined, numbered}
+use Rattle.layout.specs.Lists.{joined}
+use Rattle.circuit.specs.Rows.{Row, from, fromEach, numbered}
 use Rattle.circuit.specs.Circuit.{binFamilies, fldFamilies, circuitRows, circuitWords}
 use Rattle.circuit.specs.Parse.{rowsOf}
 use Rattle.circuit.specs.Batched.{batchRow}

@@ -5,8 +5,9 @@ use Prim.Native.Nat.{ℕ, _+_, _-_, _*_, _/_, _%_, _^_, zero, suc}
 use Rattle.circuit.specs.declared.Coefficient.{Coefficient}
 use Rattle.circuit.specs.declared.Coefficient.the-variants.{Zero, Power}
 use Rattle.circuit.specs.declared.Relation.the-variants.{Bin, Fld}
-use Rattle.circuit.specs.Rows.{Term, Sides, Row, from, fromEach, joined, numbered, encode}
+use Rattle.circuit.specs.Rows.{Term, Sides, Row, from, fromEach, numbered, encode}
 use Rattle.layout.specs.Columns.{ONE-COL, RS1, RS2, RD, LOAD-VAL, SHIFT-OUT, T1, T2, CARRY-OFF, ALU, SHIFT-SRC, STORE-OLD, STORE-SRC, SUB, WE, IS-LOAD, IS-STORE, IS-ARITH, HALT, IS-SHIFT, LD-BYTE, LD-HALF, LD-WORD, TAKEN, OFF, RAM-ADDR, FETCH-OP, FETCH-FUNCT3, EQA, PA, EQB, PB, CA, CH, CH2, NH, WNL, ZERO, OPSYS, OPBR, EQFM, EQF, LTSA, LTSB, LTUA, LTUB, CEQ, CLT, CLU, ZE16, ZE8}
+use Rattle.layout.specs.Lists.{joined}
 
 -- 2^k times a column
 abbrev pub power : ℕ → ℕ → Term

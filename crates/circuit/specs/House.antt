@@ -5,10 +5,11 @@ use mathlib.Core.List.{List, [], _∷_}
 use Prim.Native.Nat.{ℕ, zero, suc, _+_}
 use lib.ListN.{length, take, getD}
 use Rattle.layout.specs.declared.Asked.the-variants.{Yes}
+use Rattle.layout.specs.Lists.{joined}
 use Rattle.circuit.specs.declared.Coefficient.{Coefficient}
 use Rattle.circuit.specs.declared.Coefficient.the-variants.{Zero, Power}
 use Rattle.circuit.specs.Words.{cleanOf, wordOf}
-use Rattle.circuit.specs.Rows.{Term, Sides, from, fromEach, joined, numbered, sideWords, encode}
+use Rattle.circuit.specs.Rows.{Term, Sides, from, fromEach, numbered, sideWords, encode}
 use Rattle.circuit.specs.Circuit.{binFamilies, fldFamilies, circuitRows, circuitWords}
 use Rattle.circuit.specs.Parse.{parse, rowsOf}
 use Rattle.circuit.specs.Valid.{afterMark, afterTerm, afterWord, validFrom, validated}

@@ -1,5 +1,6 @@
 pub mod Words
 pub mod Rows
+pub mod Families
 pub mod Circuit
 pub mod Parse
 pub mod Valid

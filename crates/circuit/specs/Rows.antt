@@ -31,10 +31,6 @@ unfoldable pub fromEach : {A : Type 0} → ℕ → ℕ → (ℕ → List A) → 
 fromEach i zero f = []
 fromEach i (suc n) f = f i ++ fromEach (suc i) n f
 
-unfoldable pub joined : {A : Type 0} → List (List A) → List A
-joined [] = []
-joined (x ∷ xs) = x ++ joined xs
-
 -- rows of one relation, numbered from n
 unfoldable pub numbered : Relation → ℕ → List Sides → List Row
 numbered rel n [] = []

@@ -10,6 +10,7 @@ pub mod Remainder
 pub mod Element
 pub mod Words
 pub mod Laws
+pub mod Bits
 pub mod Tests
 pub mod Loops
 pub mod Packed

@@ -1,4 +1,5 @@
 -- Finite sums, and the number that bits make up: over any type, so that a proof about any field can speak of them.
+pub mod Laws
 use mathlib.Core.Bool.{Bool, cond}
 use Prim.Native.Nat.{ℕ, zero, suc, _+_, _*_}
 

@@ -1,7 +1,8 @@
 pub mod Ascii
+pub mod Questions
+pub mod Lists
 pub mod Columns
 pub mod Segments
-pub mod Questions
 pub mod Batch
 pub mod Sizes
 pub mod Mapping

@@ -2,21 +2,43 @@
 -- Assumes nothing.
 use mathlib.Core.Path.{_≡_, refl, sym, ap, ap₂, _∙_}
 use mathlib.Core.Bool.{true}
-use Prim.Native.Nat.{ℕ, _+_, _*_, _/_, _%_, _^_, _≤_, _<_}
-use native.Mathlib.Nat.{mod-lt, div-add-mod', div-lt-iff-lt-mul}
+use Prim.Native.Nat.{ℕ, _+_, _-_, _*_, _/_, _%_, _≤_, _<_}
+use native.Mathlib.Decide.{decLt}
+use native.Mathlib.Nat.{mul-one, mod-lt, div-add-mod', div-lt-iff-lt-mul}
 use native.Mathlib.Omega.{arith}
-use borrow.Author.Tests.{lt-ltb}
+use borrow.Author.Tests.{lt-ltb, le-ltb}
 use lib.Arith.{digits-lt, digits-div, digits-mod}
 use Rattle.layout.specs.declared.ColumnAnswer.the-variants.{At}
 use Rattle.layout.specs.declared.CycleColumnAnswer.the-variants.{At as In}
 use Rattle.layout.specs.Batch.{allowed, columnAt, mapped, unmapped}
-use Rattle.layout.specs.Questions.{passed}
+use Rattle.layout.specs.Questions.{passed, refused}
 use Rattle.layout.specs.Sizes.{allowed-range}
 
 -- what the mapping gives for a witness column
 pub witness-column : (cpi c d : ℕ) → c < 2048 → columnAt cpi c d ≡ c * cpi + d
 unfolding columnAt
 witness-column cpi c d h = sym (passed _ _ _ (lt-ltb c 2048 h))
+
+-- and for a public one
+pub public-column : (cpi c d : ℕ) → 2048 ≤ c → columnAt cpi c d ≡ 2048 * cpi + (c - 2048)
+unfolding columnAt
+public-column cpi c d h = sym (refused _ _ _ (le-ltb c 2048 h))
+
+-- in a batch of one cycle every column stands at its own place
+pub column-is : (c : ℕ) → columnAt 1 c 0 ≡ c
+column-is c =
+    elim (decLt c 2048) [
+      | yes h ↦ witness-column 1 c 0 h ∙ omega (arith, mul-one c)
+      | no f ↦ public-column 1 c 0 (omega arith) ∙ omega arith
+    ]
+
+-- a column of cycle d is a public one, or its batch column leaves d
+pub column-cycle : (cpi c d : ℕ) → d < cpi → columnAt cpi c d < 2048 * cpi → columnAt cpi c d % cpi ≡ d
+column-cycle cpi c d h m =
+    elim (decLt c 2048) [
+      | yes k ↦ ap (λ (x : ℕ). x % cpi) (witness-column cpi c d k) ∙ digits-mod c h
+      | no f ↦ absurd (omega (arith, m, public-column cpi c d (omega arith)))
+    ]
 
 pub column-below : (cpi c d : ℕ) → c < 2048 → d < cpi → columnAt cpi c d < 2048 * cpi
 column-below cpi c d hc hd = rw (witness-column cpi c d hc) (digits-lt hc hd)

@@ -8,6 +8,7 @@ use lib.Dec.{leb}
 use lib.ListN.{length, replicate}
 use Rattle.layout.specs.Ascii.{ascii}
 use Rattle.layout.specs.Columns.{W-COLS, RS1, RS2, RD, LOAD-VAL, SHIFT-OUT, T1, T2, CARRY-OFF, ALU, SHIFT-SRC, STORE-OLD, STORE-SRC, FLAGS, OFF, RAM-ADDR, PC, FETCH, EQA, ZERO}
+use Rattle.layout.specs.Lists.{joined}
 
 -- a name, in bytes of ASCII; the column of its first bit; how many columns it has
 pub record Segment : Type 0 where
@@ -45,10 +46,6 @@ segments =
 -- a name filled up with blanks to 9 bytes, the longest
 abbrev pub padded : List ℕ → List ℕ
 padded n = n ++ replicate (9 - length n) 0x20
-
-abbrev pub joined : List (List ℕ) → List ℕ
-joined [] = []
-joined (x ∷ xs) = x ++ joined xs
 
 -- the names, starts and lengths, each as one list
 abbrev pub segmentNames : List Segment → List ℕ

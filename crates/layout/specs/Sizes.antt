@@ -1,23 +1,18 @@
 -- What the allowed batch sizes have in common. A fact shown of each of the nine is a fact of every allowed cpi.
 -- Assumes nothing.
 use mathlib.Core.Path.{_≡_, refl, sym, ap, subst, _∙_}
-use mathlib.Core.Bool.{Bool, true, false, not, cond, _&&_, _||_, false≢true}
+use mathlib.Core.Bool.{Bool, true, false, not, cond, _||_, false≢true}
 use mathlib.Core.List.{List, [], _∷_}
 use Prim.Native.Nat.{ℕ, zero, suc, _%_, _^_, _≤_, _<_}
 use native.Mathlib.Decide.{decLe}
-use native.Mathlib.Nat.{mod-eq-of-lt, not-suc-le-zero, eq-or-lt-of-le, le-of-suc-le-suc}
+use native.Mathlib.Nat.{mod-eq-of-lt, not-suc-le-zero}
 use native.Mathlib.Omega.{arith}
-use mathlib.Core.Logic.{⊎-elim}
 use borrow.Author.Tests.{eqb-true, eqb-false, ne-eqb}
 use lib.Dec.{eqb, lit≤}
 use Rattle.layout.specs.Batch.{sizes, among, allowed}
-use Rattle.layout.specs.Questions.{both}
+use Rattle.layout.specs.Lists.{All, below-at}
 
-abbrev pub Each : (ℕ → Type 0) → List ℕ → Type 0
-Each P [] = Unit
-Each P (x ∷ xs) = P x × Each P xs
-
-pub among-each : (P : ℕ → Type 0) (xs : List ℕ) → Each P xs → (n : ℕ) → among n xs ≡ true → P n
+pub among-each : (P : ℕ → Type 0) (xs : List ℕ) → All P xs → (n : ℕ) → among n xs ≡ true → P n
 among-each P [] h n e = absurd (false≢true e)
 among-each P (x ∷ xs) h n e = by-test (eqb n x) refl e (λ f. among-each P xs (h .1) n f)
   where
@@ -25,7 +20,7 @@ among-each P (x ∷ xs) h n e = by-test (eqb n x) refl e (λ f. among-each P xs 
     by-test true q f later = subst P (sym (eqb-true n x q)) (h .0)
     by-test false q f later = later f
 
-pub each-size : (P : ℕ → Type 0) → Each P sizes → (cpi : ℕ) → allowed cpi ≡ true → P cpi
+pub each-size : (P : ℕ → Type 0) → All P sizes → (cpi : ℕ) → allowed cpi ≡ true → P cpi
 unfolding allowed
 each-size P = among-each P sizes
 
@@ -51,23 +46,12 @@ agreed true false e = sym e
 agreed false true e = e
 agreed false false e = refl
 
-upTo : ℕ → Bool
-upTo zero = true
-upTo (suc n) = agrees (suc n) && upTo n
-
-up-to : (n k : ℕ) → upTo n ≡ true → k < n → agrees (suc k) ≡ true
-unfolding upTo
-up-to zero k e h = absurd (not-suc-le-zero h)
-up-to (suc n) k e h =
-    let b = both (agrees (suc n)) (upTo n) e in
-    ⊎-elim (λ q. ap (λ (m : ℕ). agrees (suc m)) q ∙ b .0) (up-to n k (b .1)) (eq-or-lt-of-le (le-of-suc-le-suc h))
-
 pub divides : (cpi : ℕ) → 0 < cpi → eqb (256 % cpi) 0 ≡ allowed cpi
-unfolding allowed agrees upTo
+unfolding allowed agrees
 divides zero h = absurd (not-suc-le-zero h)
 divides (suc n) h =
     elim (decLe (suc n) 256) [
-      | yes l ↦ agreed _ _ (up-to 256 n refl (omega arith))
+      | yes l ↦ agreed _ _ (below-at 256 (λ m. agrees (suc m)) refl n (omega arith))
       | no f ↦ ap (λ (r : ℕ). eqb r 0) (mod-eq-of-lt {m = suc n} (omega arith)) ∙ sym (far f (among (suc n) sizes) refl)
     ]
   where

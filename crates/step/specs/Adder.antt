@@ -8,9 +8,8 @@ use Prim.Native.Nat.{ℕ, zero, suc, _+_, _*_, _%_, _^_, _<_}
 use native.Mathlib.Omega.{arith}
 use native.Mathlib.Nat.{add-comm, mod-eq-of-lt, mul-add-mod-self-left}
 use Rattle.field.specs.Sums.{digit, val}
-use Rattle.field.specs.Gf.Packed.{val-lt}
+use Rattle.field.specs.Sums.Laws.{val-lt, val-same, same-bits, val-top, pow-step}
 use Rattle.step.specs.Words.{_⊻_}
-use Rattle.step.specs.Numbers.{val-same, same-bits, val-top, pow-step}
 
 -- the carry out of a full adder, as the adder rows write it
 abbrev pub majority : Bool → Bool → Bool → Bool

@@ -7,14 +7,14 @@ use mathlib.Core.Bool.{Bool, true, not, cond, _||_}
 use mathlib.Core.List.{List, [], _∷_, _++_, map}
 use Prim.Native.Nat.{ℕ, _<_}
 use lib.Dec.{eqb}
+use Rattle.layout.specs.Lists.{joined, All, all-append, all-left, all-right, all-map}
 use Rattle.circuit.specs.declared.Relation.{Relation}
 use Rattle.circuit.specs.declared.Relation.the-variants.{Bin, Fld}
-use Rattle.circuit.specs.Rows.{Sides, Row, from, fromEach, joined, numbered}
+use Rattle.circuit.specs.Rows.{Sides, Row, from, fromEach, numbered}
 use Rattle.circuit.specs.Circuit.{haltRows, firstCarryRow, binFamilies, fldFamilies, circuitRows, circuitWords}
 use Rattle.circuit.specs.Parse.{rowsOf}
 use Rattle.circuit.specs.House.{words-read}
 use Rattle.verdict.specs.Row.{cycleOf, holds}
-use Rattle.verdict.specs.Verdicts.{All, all-append, all-left, all-right}
 use Rattle.step.specs.Words.{bitsOf}
 use Rattle.step.specs.Derived.{within}
 use Rattle.step.specs.Solve.{Holds}
@@ -38,19 +38,15 @@ these-determine : map (λ (r : Row). r .sides) (thatDetermine circuitRows) ≡ j
 unfolding thatDetermine circuitRows binFamilies fldFamilies beforeHalt afterHalt from fromEach joined numbered
 these-determine = refl
 
-all-sides : (P : Sides → Type 0) (rs : List Row) → All (λ r. P (r .sides)) rs ↔ All P (map (λ (r : Row). r .sides) rs)
-all-sides P [] = (λ h. h, λ h. h)
-all-sides P (r ∷ rs) = let k = all-sides P rs in (λ h. (h .0, k .0 (h .1)), λ h. (h .0, k .1 (h .1)))
-
 rows-are : (P : Sides → Type 0)
     → All (λ r. P (r .sides)) (thatDetermine (rowsOf circuitWords)) ↔ (All P (joined (determiningBin haltRows)) × P firstCarryRow)
 rows-are P =
     let bins = joined (determiningBin haltRows) in
-    let k = all-sides P (thatDetermine circuitRows) in (
-      λ h. let a = subst (All P) these-determine (k .0 (subst (λ (rs : List Row). All (λ r. P (r .sides)) (thatDetermine rs)) words-read h)) in
+    let k = all-map P (λ (r : Row). r .sides) (thatDetermine circuitRows) in (
+      λ h. let a = subst (All P) these-determine (k .1 (subst (λ (rs : List Row). All (λ r. P (r .sides)) (thatDetermine rs)) words-read h)) in
           (all-left P bins (firstCarryRow ∷ []) a, all-right P bins (firstCarryRow ∷ []) a .0),
       λ h. subst (λ (rs : List Row). All (λ r. P (r .sides)) (thatDetermine rs)) (sym words-read)
-          (k .1 (subst (All P) (sym these-determine) (all-append P bins (firstCarryRow ∷ []) (h .0) (h .1, tt)))),
+          (k .0 (subst (All P) (sym these-determine) (all-append P bins (firstCarryRow ∷ []) (h .0) (h .1, tt)))),
     )
 
 module _ (cpi : ℕ) (some : 0 < cpi) (batch : List ℕ) (p : Premises cpi batch) (v : ℕ → Bool) where

@@ -6,7 +6,7 @@ use mathlib.Core.Logic.{_↔_}
 use mathlib.Core.Bool.{Bool, true, false}
 use mathlib.Core.List.{List}
 use Prim.Native.Nat.{ℕ, _+_, _*_, _/_, _%_, _≤_, _<_}
-use native.Mathlib.Nat.{div-lt-iff-lt-mul, mod-lt, div-add-mod', add-zero}
+use native.Mathlib.Nat.{div-lt-iff-lt-mul, mod-lt, div-add-mod'}
 use native.Mathlib.Decide.{decLt}
 use native.Mathlib.Omega.{arith}
 use lib.Arith.{digits-div, digits-mod}
@@ -14,20 +14,19 @@ use lib.Dec.{eqb}
 use Rattle.field.specs.declared.Gf128.{Gf128}
 use Rattle.field.specs.Gf as gf
 use Rattle.field.specs.Gf.{low, Proper}
-use Rattle.field.specs.Gf.Laws.{words-zero, words-one, low-words, proper-words}
+use Rattle.field.specs.Gf.Laws.{proper-words}
 use Rattle.field.specs.Gf.Tests.{odd, isBit-true}
+use Rattle.field.specs.Gf.Bits.{bitOf, low-bit, as-bit}
 use Rattle.layout.specs.Columns.{ONE-COL}
 use Rattle.layout.specs.Batch.{columnAt}
-use Rattle.circuit.specs.Rows.{joined}
+use Rattle.layout.specs.Lists.{joined, All, all-joined}
+use Rattle.layout.specs.Mapping.{public-column}
 use Rattle.circuit.specs.Circuit.{binFamilies, fldFamilies}
 use Rattle.verdict.specs.Row.{elementAt, cycleOf, holds}
-use Rattle.verdict.specs.OverBits.{bitOf}
-use Rattle.verdict.specs.Verdicts.{All}
 use Rattle.step.specs.Words.{bitsOf}
 use Rattle.step.specs.Step.{Step}
 use Rattle.step.specs.Derived.{derived, derivedIn, derived-past, one-given}
 use Rattle.step.specs.Solve.{Holds}
-use Rattle.step.specs.Families.{all-joined}
 use Rattle.step.specs.Determining.{determiningFamilies, determining, filledBits, filled-holds, filled-keeps, filled-only}
 use Rattle.step.specs.Determined.{Determined, determined}
 use Rattle.step.specs.Conditions.{Others, conditions-hold, others-hold}
@@ -38,30 +37,25 @@ use Rattle.step.specs.Count.{put-same-bits}
 use Rattle.step.specs.Placed.{not-derived, filling-length, filling-elsewhere, filling-here, filling-given, filling-derived, is-filling}
 use Rattle.step.specs.Demand3.{Premises}
 
--- ---- an element that is a bit
-
-pub low-bit : (v : Bool) → eqb (low (bitOf v)) 1 ≡ v
-low-bit true = ap (λ (x : Gf128). eqb (low x) 1) (sym words-one) ∙ ap (λ (n : ℕ). eqb n 1) (low-words 1 0)
-low-bit false = ap (λ (x : Gf128). eqb (low x) 1) (sym words-zero) ∙ ap (λ (n : ℕ). eqb n 1) (low-words 0 0)
-
-pub as-bit : {x : Gf128} (v : Bool) → x ≡ bitOf v → x ≡ bitOf (eqb (low x) 1)
-as-bit v e = e ∙ ap (λ (b : Bool). bitOf b) (sym (ap (λ (y : Gf128). eqb (low y) 1) e ∙ low-bit v))
-
 public-given : derived (ONE-COL + 1) ≡ false
 public-given = derived-past (ONE-COL + 1) (omega arith)
+
+-- where the batch's one column is 1, every cycle's is
+one-column : (cpi : ℕ) (w : List ℕ) → elementAt w (2048 * cpi) ≡ gf.one → (d : ℕ) → cycleOf cpi w d ONE-COL ≡ gf.one
+unfolding cycleOf
+one-column cpi w e d = ap (elementAt w) (public-column cpi ONE-COL d (omega arith) ∙ omega arith) ∙ e
+
+pub one-is-set : (cpi : ℕ) (w : List ℕ) → elementAt w (2048 * cpi) ≡ gf.one → (d : ℕ) → bitsOf cpi w d ONE-COL ≡ true
+unfolding bitsOf
+one-is-set cpi w e d = ap (λ (x : Gf128). eqb (low x) 1) (one-column cpi w e d) ∙ low-bit true
 
 -- the rows of the house listing hold
 abbrev pub RowsHold : (ℕ → Gf128) → Type 0
 RowsHold z = All (λ s. holds z s ≡ true) (joined binFamilies) × All (λ s. holds z s ≡ true) (joined fldFamilies)
 
 module _ (cpi : ℕ) (some : 0 < cpi) (w : List ℕ) (p : Premises cpi w) where
-  one-column : (d : ℕ) → cycleOf cpi w d ONE-COL ≡ gf.one
-  unfolding cycleOf columnAt
-  one-column d = ap (elementAt w) (add-zero (2048 * cpi)) ∙ p .one-is
-
   pub one-bit : (d : ℕ) → bitsOf cpi w d ONE-COL ≡ true
-  unfolding bitsOf
-  one-bit d = ap (λ (x : Gf128). eqb (low x) 1) (one-column d) ∙ low-bit true
+  one-bit = one-is-set cpi w (p .one-is)
 
   proper-public : (d : ℕ) → Proper (cycleOf cpi w d (ONE-COL + 1))
   unfolding cycleOf
@@ -95,7 +89,7 @@ module _ (cpi : ℕ) (some : 0 < cpi) (w : List ℕ) (p : Premises cpi w) where
               | yes m ↦ as-bit (odd (cycleOf cpi w d c)) (filling-given cpi v w c d h e ∙ isBit-true _ (p .given c d m h e))
               | no f ↦
                   let q : c ≡ ONE-COL = omega arith in
-                  as-bit true (filling-given cpi v w c d h e ∙ ap (cycleOf cpi w d) q ∙ one-column d)
+                  as-bit true (filling-given cpi v w c d h e ∙ ap (cycleOf cpi w d) q ∙ one-column cpi w (p .one-is) d)
             ]
 
     pub of-bits : (d : ℕ) → d < cpi → OfBits (cycleOf cpi u d) (bitsOf cpi u d)

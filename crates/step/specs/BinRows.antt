@@ -7,14 +7,13 @@ use mathlib.Core.Bool.{Bool, true, false, _&&_, true≢false, false≢true}
 use mathlib.Core.List.{[], _∷_}
 use Prim.Native.Nat.{ℕ, _+_}
 use Rattle.layout.specs.Columns.{ONE-COL, RD, ALU, IS-LOAD, IS-STORE, HALT, RAM-ADDR, OPSYS, ZE16, ZE8}
+use Rattle.layout.specs.Lists.{All, all-swap}
 use Rattle.circuit.specs.Rows.{Sides, from}
 use Rattle.circuit.specs.Circuit.{addressRow, extensionRow, haltRows, binFamilies}
 use Rattle.verdict.specs.OverBits.{sumBits}
-use Rattle.verdict.specs.Verdicts.{All}
 use Rattle.step.specs.Cases.{xor-false, xor-two, xor-self, xor-cancel}
 use Rattle.step.specs.Words.{_⊻_}
 use Rattle.step.specs.Solve.{lacks, Holds}
-use Rattle.step.specs.Families.{all-swap}
 use Rattle.step.specs.Determining.{haltRow, beforeHalt, afterHalt, determiningBin}
 
 gate : (a x : Bool) → (((a && x) ⊻ false) ≡ false) ↔ (a ≡ true → x ≡ false)

@@ -53,6 +53,10 @@ xor-cancel true false e = absurd (true≢false e)
 xor-cancel false true e = absurd (true≢false e)
 xor-cancel false false e = refl
 
+pub not-self : (b : Bool) → not b ≡ b → ⊥
+not-self true e = false≢true e
+not-self false e = true≢false e
+
 pub no-true : (b : Bool) → (b ≡ true → ⊥) → b ≡ false
 no-true true h = absurd (h refl)
 no-true false h = refl

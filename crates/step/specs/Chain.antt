@@ -9,9 +9,10 @@ use native.Mathlib.Omega.{arith}
 use native.Mathlib.Nat.{eq-or-lt-of-le, le-of-suc-le-suc, not-suc-le-zero}
 use lib.Dec.{eqb}
 use Rattle.field.specs.Sums.{val}
+use Rattle.field.specs.Sums.Laws.{val-same, same-bits}
 use Rattle.layout.specs.Questions.{both}
 use Rattle.step.specs.Words.{_⊻_}
-use Rattle.step.specs.Numbers.{val-same, same-bits, is-eqb}
+use Rattle.step.specs.Numbers.{is-eqb}
 
 -- two bits are the same
 abbrev pub alike : Bool → Bool → Bool

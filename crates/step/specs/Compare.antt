@@ -10,9 +10,9 @@ use lib.Dec.{eqb, ltb}
 use lib.IntN.{pos, negsuc}
 use lib.Signed.{ltZ}
 use Rattle.field.specs.Sums.{digit, val}
-use Rattle.field.specs.Gf.Packed.{val-lt}
+use Rattle.field.specs.Sums.Laws.{val-lt, val-top, pow-step, complement}
 use Rattle.step.specs.Words.{_⊻_, signed}
-use Rattle.step.specs.Numbers.{val-top, pow-step, complement, is-eqb, is-ltb}
+use Rattle.step.specs.Numbers.{is-eqb, is-ltb}
 use Rattle.step.specs.Adder.{majority, Carries, adds-top}
 
 -- the signed order from the two signs and the difference's top bit

@@ -11,13 +11,12 @@ use lib.Dec.{eqb}
 use Rattle.field.specs.declared.Gf128.{Gf128}
 use Rattle.field.specs.Gf.{ofWords}
 use Rattle.field.specs.Sums.{digit}
-use Rattle.field.specs.Gf.Packed.{val-lt}
-use Rattle.layout.specs.Columns.{RS1, RD, LOAD-VAL, SHIFT-OUT, T1, T2, CARRY-OFF, ALU, SUB, WE, IS-LOAD, IS-STORE, IS-ARITH, HALT, IS-SHIFT, LD-BYTE, LD-HALF, LD-WORD, OFF, RAM-ADDR, CA, CH, CH2, WNL, ZE16, ZE8}
+use Rattle.field.specs.Sums.Laws.{val-same, same-bits, no-bits}
+use Rattle.layout.specs.Columns.{RS1, RD, LOAD-VAL, SHIFT-OUT, T1, T2, CARRY-OFF, ALU, SUB, WE, IS-LOAD, IS-STORE, IS-ARITH, HALT, IS-SHIFT, LD-BYTE, LD-HALF, LD-WORD, RAM-ADDR, CA, CH, CH2, WNL, ZE16, ZE8}
 use Rattle.layout.specs.Questions.{both}
 use Rattle.step.specs.Words.{_⊻_, word}
-use Rattle.step.specs.Numbers.{val-same, same-bits, no-bits}
 use Rattle.step.specs.Adder.{wrapping-sum}
-use Rattle.step.specs.Step.{Step, offset}
+use Rattle.step.specs.Step.{Step, offset, offset-lt}
 use Rattle.step.specs.Determined.{Determined}
 
 -- where column x is 1, the words at y and z agree in their low n bits
@@ -46,9 +45,6 @@ and-of : {a b : Bool} → a ≡ true → b ≡ true → (a && b) ≡ true
 and-of p q = ap₂ _&&_ p q
 
 module _ (b : ℕ → Bool) (output : Gf128) (f : Determined b) where
-  offset-lt : offset b < 8
-  offset-lt = val-lt 3 (λ i. b (OFF + i))
-
   wraps : (word b ALU 64 ≡ (word b T1 64 + word b T2 64 + digit (b SUB)) % 2 ^ 64) ↔ Summed b
   wraps =
       let k = wrapping-sum 63 (λ i. b (T1 + i)) (λ i. b (T2 + i)) (λ i. b (CARRY-OFF + i)) (λ i. b (ALU + i)) (f .carries) in
@@ -74,13 +70,13 @@ module _ (b : ℕ → Bool) (output : Gf128) (f : Determined b) where
         system = λ e. let h = f .halt ∙ eq-eqb _ _ e in (val-same _ _ 64 (r .halt h), r .output-is h);
         load-word = λ e. val-same _ _ 64 (r .load-word e);
         load-byte = λ e.
-            sym (val-same _ _ 8 (r .byte-lane (offset b) offset-lt (f .byte-lane (offset b) offset-lt ∙ at-lane (b LD-BYTE) (offset b) refl e)));
+            sym (val-same _ _ 8 (r .byte-lane (offset b) (offset-lt b) (f .byte-lane (offset b) (offset-lt b) ∙ at-lane (b LD-BYTE) (offset b) refl e)));
         load-half = λ e. (
-          sym (val-same _ _ 8 (r .half-lane (offset b) offset-lt (f .half-lane (offset b) offset-lt ∙ at-lane (b LD-HALF) (offset b) refl e))),
+          sym (val-same _ _ 8 (r .half-lane (offset b) (offset-lt b) (f .half-lane (offset b) (offset-lt b) ∙ at-lane (b LD-HALF) (offset b) refl e))),
           sym
               (val-same _ _ 8
               (r .next-lane ((offset b + 1) % 8) (omega arith)
-              (f .next-lane ((offset b + 1) % 8) (omega arith) ∙ at-lane (b LD-HALF) (((offset b + 1) % 8 + 7) % 8) (omega (arith, offset-lt)) e))),
+              (f .next-lane ((offset b + 1) % 8) (omega arith) ∙ at-lane (b LD-HALF) (((offset b + 1) % 8 + 7) % 8) (omega (arith, offset-lt b)) e))),
         );
         upper-zero = λ e w. zeros 16 48 .1 (r .extend16 (f .extend16 ∙ and-of (ap not w) e));
         second-zero = λ e w h. zeros 8 8 .1 (r .extend8 (f .extend8 ∙ and-of (and-of (ap not w) (ap not h)) e));

@@ -1,22 +1,18 @@
 -- Counting fillings: a test that passes just one counts 1, one that passes none 0, and one that passes all 2^(419 · cpi).
 -- Assumes nothing.
 use mathlib.Core.Path.{_≡_, refl, sym, ap, ap₂, _∙_}
-use mathlib.Core.Bool.{Bool, true, false, not, cond, true≢false, false≢true}
+use mathlib.Core.Bool.{Bool, true, false, not, cond}
 use mathlib.Core.List.{List}
 use Prim.Native.Nat.{ℕ, zero, suc, _+_, _*_, _^_, _≤_, _<_}
 use native.Mathlib.Nat.{pow-suc, zero-add}
 use native.Mathlib.Omega.{arith}
 use borrow.Author.Tests.{ne-eqb}
 use Rattle.field.specs.Sums.{digit}
-use Rattle.step.specs.Cases.{no-true}
+use Rattle.step.specs.Cases.{no-true, not-self}
 use Rattle.step.specs.Derived.{derivedIn, tally, derived-in-batch}
 use Rattle.step.specs.Solve.{setBit}
 use Rattle.step.specs.Solvable.{set-same, set-other}
 use Rattle.step.specs.Filling.{put, putEach, count, countFillings}
-
-not-self : (b : Bool) → not b ≡ b → ⊥
-not-self true e = false≢true e
-not-self false e = true≢false e
 
 module _ (q : ℕ → Bool) where
   -- equal bits in the columns make equal fillings

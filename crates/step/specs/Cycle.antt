@@ -10,16 +10,17 @@ use borrow.Author.Tests.{leb-true}
 use lib.Dec.{leb}
 use Rattle.field.specs.declared.Gf128.{Gf128}
 use Rattle.field.specs.Gf.{Proper}
+use Rattle.field.specs.Gf.Bits.{bitOf}
 use Rattle.layout.specs.Columns.{ONE-COL, RS1, RD, LOAD-VAL, SHIFT-OUT, ALU, HALT, IS-SHIFT, LD-WORD, CA, CH, CH2, WNL, ZE16, ZE8}
 use Rattle.layout.specs.Questions.{both}
-use Rattle.circuit.specs.Rows.{Sides, from, fromEach, joined}
+use Rattle.layout.specs.Lists.{joined, All, all-joined}
+use Rattle.circuit.specs.Rows.{Sides, from, fromEach}
 use Rattle.circuit.specs.Circuit.{addressRow, extensionRow, haltRows, firstCarryRow, agreeRow, loadRows, binFamilies, fldFamilies}
+use Rattle.circuit.specs.Families.{all-from, all-each}
 use Rattle.verdict.specs.Row.{holds}
-use Rattle.verdict.specs.OverBits.{bitOf, plain}
+use Rattle.verdict.specs.OverBits.{plain}
 use Rattle.verdict.specs.Depends.{named}
-use Rattle.verdict.specs.Verdicts.{All}
 use Rattle.step.specs.Solve.{Holds}
-use Rattle.step.specs.Families.{all-joined, all-from, all-each}
 use Rattle.step.specs.Determining.{beforeHalt, afterHalt, determiningBin, determiningFamilies, determining}
 use Rattle.step.specs.Conditions.{Agree, Others}
 use Rattle.step.specs.BinRows.{address-row, extension-row, one-halt, bin-parts}
@@ -31,7 +32,7 @@ abbrev pub allOverBits : List Sides → Bool
 allOverBits [] = true
 allOverBits (s ∷ ss) = overBits s && allOverBits ss
 
-bin-over-bits : allOverBits (joined binFamilies) ≡ true
+pub bin-over-bits : allOverBits (joined binFamilies) ≡ true
 unfolding binFamilies from fromEach joined plain named
 bin-over-bits = refl
 

@@ -7,17 +7,15 @@ use Prim.Native.Nat.{ℕ, suc, _+_}
 use lib.ListN.{length, drop}
 use Rattle.field.specs.declared.Gf128.{Gf128}
 use Rattle.layout.specs.Columns.{RD, ALU, WNL}
+use Rattle.layout.specs.Lists.{joined, All, all-map}
 use Rattle.circuit.specs.declared.Relation.{Relation}
 use Rattle.circuit.specs.declared.Relation.the-variants.{Bin, Fld}
-use Rattle.circuit.specs.Rows.{Sides, Row, from, fromEach, joined, numbered}
+use Rattle.circuit.specs.Rows.{Sides, from, fromEach, numbered}
 use Rattle.circuit.specs.Circuit.{adderRow, copyRows, addressRow, agreeRow, sumRow, firstCarryRow, outputRow, binFamilies, fldFamilies, circuitRows}
+use Rattle.circuit.specs.Families.{all-numbered}
 use Rattle.verdict.specs.Row.{holds}
-use Rattle.verdict.specs.OverBits.{plain}
-use Rattle.verdict.specs.Depends.{named}
 use Rattle.verdict.specs.Check.{Constraint, inCycle, ofRelation, constraints, met}
-use Rattle.verdict.specs.Verdicts.{All, Met}
-use Rattle.step.specs.Families.{all-numbered}
-use Rattle.step.specs.Cycle.{allOverBits}
+use Rattle.verdict.specs.Verdicts.{Met}
 
 -- ---- the constraints of cycle 0, in their order
 
@@ -65,13 +63,6 @@ rows-count rel ss = go 0 ss
     go n [] = refl
     go n (s ∷ ss) = ap suc (go (suc n) ss)
 
-pub bins-over-bits : allOverBits (joined binFamilies) ≡ true
-unfolding binFamilies from fromEach joined plain named
-bins-over-bits = refl
-
 pub rows-met : (view : ℕ → ℕ → Gf128) (rel : Relation) (ss : List Sides) → All (λ s. holds (view 0) s ≡ true) ss → Met (met view) (rowsIn rel ss)
-rows-met view rel ss h = mapped (numbered rel 0 ss) (all-numbered (λ s. holds (view 0) s ≡ true) rel 0 ss .1 h)
-  where
-    mapped : (rs : List Row) → All (λ r. holds (view 0) (r .sides) ≡ true) rs → Met (met view) (map (inCycle 0) rs)
-    mapped [] h = tt
-    mapped (r ∷ rs) h = (h .0, mapped rs (h .1))
+rows-met view rel ss h =
+    all-map (λ k. met view k ≡ true) (inCycle 0) (numbered rel 0 ss) .1 (all-numbered (λ s. holds (view 0) s ≡ true) rel 0 ss .1 h)

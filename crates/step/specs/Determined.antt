@@ -8,21 +8,22 @@ use native.Mathlib.Nat.{add-zero}
 use native.Mathlib.Omega.{arith}
 use lib.Dec.{eqb}
 use Rattle.field.specs.Sums.{val}
+use Rattle.field.specs.Sums.Laws.{no-bits}
 use Rattle.layout.specs.Columns.{ONE-COL, RS1, RS2, T1, T2, CARRY-OFF, ALU, SUB, WE, IS-LOAD, HALT, LD-BYTE, LD-HALF, LD-WORD, TAKEN, OFF, FETCH-OP, FETCH-FUNCT3, EQA, PA, EQB, PB, CA, CH, CH2, NH, WNL, ZERO, OPSYS, OPBR, EQFM, EQF, LTSA, LTSB, LTUA, LTUB, CEQ, CLT, CLU, ZE16, ZE8}
+use Rattle.layout.specs.Lists.{All}
 use Rattle.circuit.specs.Rows.{Term, from}
 use Rattle.circuit.specs.Circuit.{col, one, row, bitOf, is, isOf, adderRow, offsetRows, laneRows, conditionalRows, chainStart, chainNext, opcodeRows, funct3Rows}
+use Rattle.circuit.specs.Families.{all-from, all-each}
 use Rattle.verdict.specs.OverBits.{sumBits}
-use Rattle.verdict.specs.Verdicts.{All}
 use Rattle.step.specs.Cases.{of-three, of-four, xor-false, xor-cancel}
 use Rattle.step.specs.Words.{_⊻_, word}
-use Rattle.step.specs.Numbers.{isSet, val-bits, no-bits}
+use Rattle.step.specs.Numbers.{isSet, val-bits}
 use Rattle.step.specs.Adder.{majority, Carries}
 use Rattle.step.specs.Compare.{signedLess}
 use Rattle.step.specs.Chain.{alike, chain, two-stages}
 use Rattle.step.specs.Step.{opcode, funct3, offset}
 use Rattle.step.specs.Sides.{sum-one, sum-more, sum-two, sum-not, sum-three, sum-six, sum-is, sum-isOf}
 use Rattle.step.specs.Solve.{lacks, Holds}
-use Rattle.step.specs.Families.{all-from, all-each}
 use Rattle.step.specs.Determining.{beforeHalt, afterHalt, determiningFamilies}
 
 pub record Determined (b : ℕ → Bool) : Type 0 where

@@ -10,9 +10,9 @@ use native.Mathlib.Nat.{eq-or-lt-of-le}
 use native.Mathlib.Omega.{arith}
 use lib.ListN.{length}
 use Rattle.layout.specs.Columns.{ONE-COL, HALT, OPSYS, OPBR}
-use Rattle.circuit.specs.Rows.{Sides, from, fromEach, joined}
+use Rattle.layout.specs.Lists.{joined, All}
+use Rattle.circuit.specs.Rows.{Sides, from, fromEach}
 use Rattle.circuit.specs.Circuit.{firstCarryRow, adderRow, copyRow, copyRows, laneRows, conditionalRows, neitherRow, extend16Row, extend8Row, zeroRows, opcodeRows, funct3Rows, comparisonRows, muxRows, takenRow, writeGateRow}
-use Rattle.verdict.specs.Verdicts.{All}
 use Rattle.step.specs.Derived.{derived, one-given}
 use Rattle.step.specs.Solve.{Holds, solve}
 use Rattle.step.specs.Solvable.{known, inTurn, solvedFor}

@@ -3,7 +3,7 @@
 -- Assumes nothing.
 use mathlib.Core.Path.{_≡_, refl, sym, ap, ap₂, _∙_}
 use mathlib.Core.Logic.{_↔_}
-use mathlib.Core.Bool.{Bool, true, false, not, _&&_, false≢true}
+use mathlib.Core.Bool.{Bool, true, false, not, _&&_}
 use mathlib.Core.List.{List, [], _∷_, _++_}
 use Prim.Native.Nat.{ℕ, _+_, _≤_}
 use native.Mathlib.Omega.{arith}
@@ -13,22 +13,24 @@ use Rattle.field.specs.declared.Gf128.{Gf128}
 use Rattle.field.specs.Gf as gf
 use Rattle.field.specs.Gf.{ofWords, Proper, same, added}
 use Rattle.field.specs.Gf.Laws as law
-use Rattle.field.specs.Gf.Laws.{add-self, add-assoc, power-zero}
-use Rattle.field.specs.Gf.Tests.{same-true, same-self, bit-mul}
+use Rattle.field.specs.Gf.Laws.{power-zero, added-zero}
+use Rattle.field.specs.Gf.Tests.{same-true, same-self}
+use Rattle.field.specs.Gf.Bits.{bitOf, proper-bit, bit-gates}
+use Rattle.field.specs.Sums.Laws.{val-same}
 use Rattle.layout.specs.Columns.{ONE-COL, RD, T1, T2, CARRY-OFF, ALU, IS-ARITH, HALT}
 use Rattle.layout.specs.Questions.{both}
+use Rattle.layout.specs.Lists.{All}
 use Rattle.circuit.specs.Rows.{Term, Sides}
 use Rattle.circuit.specs.Circuit.{col, row, packed, agreeRow, sumRow, outputRow}
 use Rattle.verdict.specs.Row.{sumOf, balanced, holds}
-use Rattle.verdict.specs.OverBits.{bitOf, plainRow, holds-bits}
+use Rattle.verdict.specs.OverBits.{plainRow, holds-bits}
 use Rattle.verdict.specs.Depends.{namedBy, holds-depends}
-use Rattle.verdict.specs.Verdicts.{All}
+use Rattle.verdict.specs.SideSums.{proper-sum, sum-append}
 use Rattle.step.specs.Words.{_⊻_, word}
 use Rattle.step.specs.Cases.{of-four, xor-false, xor-two, xor-self, xor-cancel}
-use Rattle.step.specs.Numbers.{val-same}
 use Rattle.step.specs.Solve.{lacks, Holds}
 use Rattle.step.specs.Conditions.{Agree, Summed}
-use Rattle.step.specs.FieldSums.{proper-bit, bitSum, proper-sum, sum-append, sum-col, sum-packed, packed-zero}
+use Rattle.step.specs.FieldSums.{bitSum, sum-col, sum-packed, packed-zero}
 
 -- ---- the test of a bin row: coefficients 0 and 1, and columns up to the one column
 
@@ -38,20 +40,6 @@ upToOne (c ∷ cs) = leb c ONE-COL && upToOne cs
 
 abbrev pub overBits : Sides → Bool
 overBits s = plainRow s && upToOne (namedBy s)
-
--- ---- elements
-
--- a bit times an element is zero exactly when the element is, where the bit is 1
-gate : (v : Bool) (y : Gf128) → Proper y → (gf.product (bitOf v) y ≡ gf.zero) ↔ (v ≡ true → y ≡ gf.zero)
-gate true y p = (λ h e. sym (bit-mul true y p) ∙ h, λ h. bit-mul true y p ∙ h refl)
-gate false y p = (λ h e. absurd (false≢true e), λ h. bit-mul false y p)
-
--- x + y is zero exactly when y is x
-same-element : (x y : Gf128) → (added x y ≡ gf.zero) ↔ (y ≡ x)
-same-element x y = (
-  λ h. sym (law.zero-add y) ∙ ap (λ (w : Gf128). added w y) (sym (add-self x)) ∙ add-assoc x x y ∙ ap (added x) h ∙ law.add-zero x,
-  λ h. ap (added x) h ∙ add-self x,
-)
 
 xor-four : (t u c a : Bool) → (t ⊻ (u ⊻ (c ⊻ (a ⊻ false)))) ≡ a ⊻ (t ⊻ u ⊻ c)
 xor-four = of-four _ _ refl
@@ -79,7 +67,7 @@ module _ (z : ℕ → Gf128) (b : ℕ → Bool) (bits : (c : ℕ) → c ≤ ONE-
   gated : (x : ℕ) (m : List Term) → x ≤ ONE-COL → (holds z (row (col x ∷ []) m []) ≡ true) ↔ (b x ≡ true → sumOf z m ≡ gf.zero)
   gated x m l =
       let e = ap (λ (w : Gf128). gf.product w (sumOf z m)) (sum-col z b bits x l) in
-      let g = gate (b x) (sumOf z m) (proper-sum z m) in
+      let g = bit-gates (b x) (sumOf z m) (proper-sum z m) in
       (λ h. g .0 (sym e ∙ holds-zero z (col x ∷ []) m .0 h), λ h. holds-zero z (col x ∷ []) m .1 (e ∙ g .1 h))
 
   -- ---- the fld rows
@@ -96,7 +84,7 @@ module _ (z : ℕ → Gf128) (b : ℕ → Bool) (bits : (c : ℕ) → c ≤ ONE-
       let words = T1 ∷ T2 ∷ CARRY-OFF ∷ ALU ∷ [] in
       let k = packed-zero z b bits 64 words (omega arith) (omega arith, (omega arith, (omega arith, (omega arith, tt)))) in
       let a = sumOf z (packed 64 words) in
-      let f = gate (b IS-ARITH) a (proper-sum z (packed 64 words)) in
+      let f = bit-gates (b IS-ARITH) a (proper-sum z (packed 64 words)) in
       let e =
       ap (gf.product a) (sum-col z b bits IS-ARITH (omega arith))
       ∙ law.mul-comm a (bitOf (b IS-ARITH)) (proper-sum z (packed 64 words)) (proper-bit (b IS-ARITH)) in
@@ -113,7 +101,7 @@ module _ (z : ℕ → Gf128) (b : ℕ → Bool) (bits : (c : ℕ) → c ≤ ONE-
   pub output-row : Proper (z (ONE-COL + 1)) → (holds z outputRow ≡ true) ↔ (b HALT ≡ true → z (ONE-COL + 1) ≡ ofWords (word b RD 64) 0)
   output-row p =
       let g = gated HALT (packed 64 (RD ∷ []) ++ (col (ONE-COL + 1) ∷ [])) (omega arith) in
-      let k = same-element (ofWords (word b RD 64) 0) (z (ONE-COL + 1)) in
+      let k = added-zero (ofWords (word b RD 64) 0) (z (ONE-COL + 1)) in
       (λ h e. k .0 (sym is ∙ g .0 h e), λ h. g .1 (λ e. is ∙ k .1 (h e)))
     where
       is : sumOf z (packed 64 (RD ∷ []) ++ (col (ONE-COL + 1) ∷ [])) ≡ added (ofWords (word b RD 64) 0) (z (ONE-COL + 1))

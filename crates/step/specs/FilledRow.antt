@@ -2,7 +2,7 @@
 -- row that fails, where it is RAM address, the adder or the public output. The bench sheet's lines are cases of this.
 -- Assumes nothing.
 use mathlib.Core.Path.{_≡_, refl, sym, ap, ap₂, subst, _∙_}
-use mathlib.Core.Bool.{Bool, true, false, not, _&&_, and-false, true≢false, false≢true}
+use mathlib.Core.Bool.{Bool, true, false, not, _&&_, and-false, false≢true}
 use mathlib.Core.List.{List, [], _∷_, _++_}
 use Prim.Native.Nat.{ℕ, _+_, _*_}
 use native.Mathlib.Omega.{arith}
@@ -12,40 +12,41 @@ use Rattle.field.specs.declared.Gf128.{Gf128}
 use Rattle.field.specs.Gf.{ofWords}
 use Rattle.field.specs.Gf.Laws.{words-injective}
 use Rattle.layout.specs.Columns.{ONE-COL, RD, T1, T2, ALU, SUB, WE, IS-LOAD, IS-STORE, IS-ARITH, LD-HALF, LD-WORD, RAM-ADDR, FETCH-OP, WNL, ZE16, ZE8}
-use Rattle.layout.specs.Batch.{allowed}
-use Rattle.layout.specs.Questions.{passed, refused}
+use Rattle.layout.specs.Questions.{refused}
+use Rattle.layout.specs.Lists.{joined, All, all-append, all-joined}
 use Rattle.circuit.specs.declared.Relation.the-variants.{Bin, Fld}
-use Rattle.circuit.specs.Rows.{Sides, Row, from, fromEach, joined, numbered}
+use Rattle.circuit.specs.Rows.{Sides, Row, from, fromEach, numbered}
 use Rattle.circuit.specs.Circuit.{adderRow, copyRows, addressRow, extensionRow, agreeRow, sumRow, firstCarryRow, outputRow, binFamilies, circuitRows, circuitWords}
 use Rattle.circuit.specs.Parse.{rowsOf}
 use Rattle.circuit.specs.Batched.{batchRow}
-use Rattle.circuit.specs.House.{words-read, in-order, counts}
+use Rattle.circuit.specs.House.{words-read, counts}
+use Rattle.circuit.specs.Families.{all-from}
 use Rattle.verdict.specs.declared.Verdict.the-variants.{Accepted, Failed}
 use Rattle.verdict.specs.declared.CheckAnswer.the-variants.{Judged}
 use Rattle.verdict.specs.Row.{cycleOf, holds}
 use Rattle.verdict.specs.OverBits.{plain}
 use Rattle.verdict.specs.Depends.{named}
-use Rattle.verdict.specs.Check.{Constraint, constraints, met, run, judged, asked, after, checked}
-use Rattle.verdict.specs.Verdicts.{All, all-append, Met, run-past, accepts}
+use Rattle.verdict.specs.Check.{Constraint, constraints, met, run, judged, after, checked}
+use Rattle.verdict.specs.Verdicts.{Met, run-past, accepts}
+use Rattle.verdict.specs.Sheet.{checked-is}
 use Rattle.step.specs.Words.{_⊻_, word, bitsOf}
-use Rattle.step.specs.Cases.{no-true}
+use Rattle.step.specs.Cases.{no-true, not-self}
 use Rattle.step.specs.Step.{Step, opcode}
 use Rattle.step.specs.Derived.{derived}
 use Rattle.step.specs.Solve.{Holds}
-use Rattle.step.specs.Families.{all-joined, all-from}
 use Rattle.step.specs.Determining.{beforeHalt, determiningFamilies, determining}
 use Rattle.step.specs.Determined.{Determined}
 use Rattle.step.specs.Given.{SameGiven, same-word}
 use Rattle.step.specs.BinRows.{address-row, extension-row, one-halt, bin-parts}
 use Rattle.step.specs.FieldRows.{bin-row, agree-row, sum-row, output-row}
-use Rattle.step.specs.Cycle.{OfBits, all-bin}
+use Rattle.step.specs.Cycle.{OfBits, all-bin, bin-over-bits}
 use Rattle.step.specs.Filling.{fillerBits, filled}
 use Rattle.step.specs.Placed.{filling-length}
 use Rattle.step.specs.Demand3.{Premises}
 use Rattle.step.specs.Batch.{same-given, same-public, of-bits, filled-meets, filled-determined, rows-or-conditions}
 use Rattle.step.specs.Listings.{cycle-rows, house}
 use Rattle.step.specs.Ones.{has, Holding, Fits, bits-are, output-is, premises}
-use Rattle.step.specs.CycleOrder.{at, rowsIn, beforeAddress, bins, beforeSum, beforeOutput, address-at, sum-at, output-at, bins-count, rows-count, bins-over-bits, rows-met}
+use Rattle.step.specs.CycleOrder.{at, rowsIn, beforeAddress, bins, beforeSum, beforeOutput, address-at, sum-at, output-at, bins-count, rows-count, rows-met}
 
 -- ---- every question is answered with yes
 
@@ -55,16 +56,7 @@ filled-length row = filling-length 1 (fillerBits 1 row) row
 
 pub filled-checked : (row scratch : List ℕ) → length row ≡ 8192 → length scratch ≡ 3072
     → checked 1 circuitWords (filled 1 row) scratch ≡ record { answer = Judged (judged 1 circuitWords (filled 1 row)); scratch = replicate 3072 0 }
-unfolding checked asked allowed
-filled-checked row scratch words room =
-    let v = judged 1 circuitWords (filled 1 row) in
-    let e = passed _ _ _ (eq-eqb (length (filled 1 row)) (8192 * 1) (filled-length row ∙ words)) in
-    ap (λ q. after q v scratch) (sym (sym in-order ∙ passed _ _ _ (eq-eqb (length scratch) 3072 room) ∙ e))
-    ∙ ap (λ n. record { answer = Judged v; scratch = replicate n 0 }) room
-
-not-same : (k : Bool) → not k ≡ k → ⊥
-not-same true e = false≢true e
-not-same false e = true≢false e
+filled-checked row scratch words room = checked-is (filled 1 row) scratch (filled-length row ∙ words) room
 
 -- ---- a row that holds 1 in the columns cs and n in the public element, filled
 
@@ -133,7 +125,7 @@ module _ (cs : List ℕ) (n : ℕ) (row : List ℕ) (h : Holding cs n row) (t : 
       first-fails (rowsIn Bin beforeAddress) (at Bin 255 (addressRow 0)) (drop 256 (constraints 1 circuitRows)) address-at
       (rows-met view Bin beforeAddress
       (all-bin z b of beforeAddress refl .1 (all-append (Holds b) (from 0 63 adderRow) (fromEach 0 64 copyRows) (families .1 .0) (families .1 .1 .0))))
-      (no-true _ (λ e. not-same (has cs (ALU + 3)) (sym differ ∙ sym (given RAM-ADDR refl) ∙ agree e ∙ given (ALU + 3) refl)))
+      (no-true _ (λ e. not-self (has cs (ALU + 3)) (sym differ ∙ sym (given RAM-ADDR refl) ∙ agree e ∙ given (ALU + 3) refl)))
     where
       agree : holds z (addressRow 0) ≡ true → b RAM-ADDR ≡ b (ALU + 3)
       agree e = address-row b (of .one) 0 .0 (bin-row z b (of .bits) (addressRow 0) refl .0 e) (ap₂ _⊻_ (given IS-LOAD refl) (given IS-STORE refl) ∙ one)
@@ -148,7 +140,7 @@ module _ (cs : List ℕ) (n : ℕ) (row : List ℕ) (h : Holding cs n row) (t : 
     unfolding derived bins
     bins-met =
         rows-met view Bin (joined binFamilies)
-        (all-bin z b of (joined binFamilies) bins-over-bits .1
+        (all-bin z b of (joined binFamilies) bin-over-bits .1
         (all-joined (Holds b) binFamilies .1
         (bin-parts (Holds b) .1
         (record {
@@ -184,7 +176,7 @@ module _ (cs : List ℕ) (n : ℕ) (row : List ℕ) (h : Holding cs n row) (t : 
     -- arithmetic, and the lowest bit of ALU is not that of the sum
     pub sum-fails : has cs IS-ARITH ≡ true → has cs ALU ≡ not (has cs T1 ⊻ has cs T2 ⊻ has cs SUB) → judged 1 circuitWords (filled 1 row) ≡ Failed Fld 1 485
     unfolding derived
-    sum-fails adds differ = fld-fails beforeSum sumRow sum-at (write-holds, tt) (no-true _ (λ e. not-same _ (sym differ ∙ sym (given ALU refl) ∙ lowest e)))
+    sum-fails adds differ = fld-fails beforeSum sumRow sum-at (write-holds, tt) (no-true _ (λ e. not-self _ (sym differ ∙ sym (given ALU refl) ∙ lowest e)))
       where
         lowest : holds z sumRow ≡ true → b ALU ≡ has cs T1 ⊻ has cs T2 ⊻ has cs SUB
         lowest e =

@@ -9,13 +9,12 @@ use native.Mathlib.Omega.{arith}
 use borrow.Author.Tests.{not-true}
 use Rattle.field.specs.declared.Gf128.{Gf128}
 use Rattle.field.specs.Gf.{ofWords}
-use Rattle.field.specs.Gf.Packed.{val-lt}
 use Rattle.field.specs.Sums.{digit}
+use Rattle.field.specs.Sums.Laws.{val-same}
 use Rattle.layout.specs.Columns.{RS1, RD, LOAD-VAL, SHIFT-OUT, T1, T2, ALU, SUB, WE, IS-LOAD, IS-STORE, IS-ARITH, IS-SHIFT, LD-BYTE, LD-HALF, LD-WORD, OFF, RAM-ADDR, FETCH-OP}
 use Rattle.layout.specs.Questions.{both}
 use Rattle.step.specs.Words.{_⊻_, word}
-use Rattle.step.specs.Numbers.{val-same}
-use Rattle.step.specs.Step.{Step, byte, offset}
+use Rattle.step.specs.Step.{Step, byte, offset, offset-lt}
 use Rattle.step.specs.Derived.{derived}
 
 -- the columns o .. o + n - 1 are given
@@ -46,7 +45,7 @@ module _ (y z : ℕ → Bool) (h : SameGiven y z) where
   same-offset = same-word OFF 3 refl
 
   lane-off : byte y LOAD-VAL (offset y) ≡ byte z LOAD-VAL (offset z)
-  lane-off = same-lane (offset y) (val-lt 3 (λ i. y (OFF + i))) ∙ ap (byte z LOAD-VAL) same-offset
+  lane-off = same-lane (offset y) (offset-lt y) ∙ ap (byte z LOAD-VAL) same-offset
 
   lane-next : byte y LOAD-VAL ((offset y + 1) % 8) ≡ byte z LOAD-VAL ((offset z + 1) % 8)
   lane-next = same-lane ((offset y + 1) % 8) (omega arith) ∙ ap (λ (k : ℕ). byte z LOAD-VAL ((k + 1) % 8)) same-offset

@@ -12,7 +12,7 @@
 -- and the theorems are `demand3` of Proved, `filler-alone` of Alone, `all-fillings` of Count, `demand3-of-fill` of Fill.Answers, `meets-all` and
 -- `answer-meets` of Met.First and, of the bench sheet's P6 to P9, `sheet` of Sheet.
 -- The way there, from the ground up:
--- words of any width (Cases, Numbers, Adder, Compare, Chain); Theorem U (Solvable, Unique, Determining); Theorem C (Families, Determined,
+-- words of any width (Cases, Numbers, Adder, Compare, Chain); Theorem U (Solvable, Unique, Determining); Theorem C (Determined,
 -- Conditions, Taken, Given); from the field to bits (BinRows, FieldSums, FieldRows, Cycle); the batch (Placed, Count, Batch); the check (Listings,
 -- Proved); the bench sheet's rows (Ones, CycleOrder, FilledRow).
 pub mod Words
@@ -28,7 +28,6 @@ pub mod Derived
 pub mod Solve
 pub mod Solvable
 pub mod Unique
-pub mod Families
 pub mod Determining
 pub mod Determined
 pub mod Conditions

@@ -6,28 +6,28 @@ use mathlib.Core.Logic.{_↔_}
 use mathlib.Core.Bool.{Bool, true, false, _&&_, false≢true}
 use mathlib.Core.List.{List, [], _∷_, _++_, append-nil}
 use Prim.Native.Nat.{ℕ, _+_, _*_}
-use borrow.Author.Tests.{eq-eqb}
 use lib.ListN.{length}
 use Rattle.field.specs.declared.Gf128.{Gf128}
 use Rattle.layout.specs.declared.Asked.the-variants.{Yes}
 use Rattle.layout.specs.Batch.{allowed}
-use Rattle.layout.specs.Questions.{both, passed}
+use Rattle.layout.specs.Questions.{both}
+use Rattle.layout.specs.Lists.{joined, All, all-append, all-left, all-right}
 use Rattle.circuit.specs.declared.Relation.the-variants.{Bin, Fld}
-use Rattle.circuit.specs.Rows.{Sides, Row, joined, numbered}
+use Rattle.circuit.specs.Rows.{Sides, Row, numbered}
 use Rattle.circuit.specs.Circuit.{binFamilies, fldFamilies, circuitRows, circuitWords}
 use Rattle.circuit.specs.Parse.{rowsOf}
 use Rattle.circuit.specs.Valid.{validated}
 use Rattle.circuit.specs.House.{words-read, in-order}
+use Rattle.circuit.specs.Families.{all-numbered}
 use Rattle.verdict.specs.declared.Verdict.{Verdict}
 use Rattle.verdict.specs.declared.Verdict.the-variants.{Accepted, Failed}
 use Rattle.verdict.specs.declared.CheckAnswer.the-variants.{Judged}
 use Rattle.verdict.specs.Row.{holds}
-use Rattle.verdict.specs.Check.{judged, asked, after, checked}
+use Rattle.verdict.specs.Check.{judged, checked}
 use Rattle.verdict.specs.Verdicts as verdicts
-use Rattle.verdict.specs.Verdicts.{All, all-append, all-left, all-right, EveryRowHolds}
+use Rattle.verdict.specs.Verdicts.{EveryRowHolds}
 use Rattle.step.specs.Solve.{Holds}
 use Rattle.step.specs.Solvable.{readsRow, same-lacks}
-use Rattle.step.specs.Families.{all-numbered}
 use Rattle.step.specs.Determining.{known-given}
 use Rattle.step.specs.Given.{SameGiven}
 use Rattle.step.specs.Cycle.{allOverBits}
@@ -46,10 +46,7 @@ judged-accepts cpi listing u = (λ e. go (judged cpi listing u) refl e, λ h. ap
 -- every question is answered with yes
 pub checked-answer : (cpi : ℕ) (listing u scratch : List ℕ) → allowed cpi ≡ true → validated listing ≡ Yes → length scratch ≡ 3072 → length u ≡ 8192 * cpi
     → checked cpi listing u scratch .answer ≡ Judged (judged cpi listing u)
-unfolding checked asked
-checked-answer cpi listing u scratch size valid room words =
-    ap (λ q. after q (judged cpi listing u) scratch .answer)
-    (sym (sym valid ∙ passed _ _ _ (eq-eqb (length scratch) 3072 room) ∙ passed _ _ _ (eq-eqb (length u) (8192 * cpi) words) ∙ passed _ _ _ size))
+checked-answer cpi listing u scratch size valid room words = ap (λ c. c .answer) (verdicts.answered-yes cpi listing u scratch size valid room words)
 
 -- ---- further bin rows
 

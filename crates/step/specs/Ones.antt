@@ -5,26 +5,26 @@ use mathlib.Core.Path.{_≡_, refl, sym, ap, ap₂, subst, fun-ext, _∙_}
 use mathlib.Core.Bool.{Bool, true, false, not, _&&_, _||_, true≢false, false≢true}
 use mathlib.Core.List.{List, [], _∷_, _++_}
 use Prim.Native.Nat.{ℕ, zero, suc, _+_, _*_, _/_, _%_, _^_, _≤_, _<_}
-use native.Mathlib.Decide.{decLt}
-use native.Mathlib.Nat.{mul-one}
 use native.Mathlib.Omega.{arith}
-use borrow.Author.Tests.{eqb-true, eqb-false, leb-true, lt-ltb, le-ltb, ltb-true, not-true}
+use borrow.Author.Tests.{eqb-true, eqb-false, leb-true, ltb-true, not-true}
 use lib.Dec.{eqb, leb, ltb}
 use lib.ListN.{length, getD, set, replicate, length-set, length-replicate}
 use lib.Seq.{getD-set-same, getD-set-other}
 use Rattle.field.specs.declared.Gf128.{Gf128}
 use Rattle.field.specs.Gf.{ofWords, low, isBit}
-use Rattle.field.specs.Gf.Laws.{words-zero, words-one, low-words}
+use Rattle.field.specs.Gf.Laws.{low-words}
 use Rattle.field.specs.Gf.Tests.{isBit-bit}
 use Rattle.field.specs.Sums.{digit}
+use Rattle.field.specs.Gf.Bits.{bitOf, low-bit, bit-words}
+use Rattle.field.specs.Sums.Laws.{digit-lt}
 use Rattle.layout.specs.Columns.{ONE-COL}
 use Rattle.layout.specs.Batch.{among, columnAt}
-use Rattle.layout.specs.Questions.{both, passed, refused}
+use Rattle.layout.specs.Questions.{both}
+use Rattle.layout.specs.Lists.{All}
+use Rattle.layout.specs.Mapping.{column-is}
 use Rattle.circuit.specs.Rows.{Sides}
 use Rattle.verdict.specs.Row.{elementAt, cycleOf}
-use Rattle.verdict.specs.OverBits.{bitOf}
-use Rattle.verdict.specs.Verdicts.{All}
-use Rattle.verdict.specs.Sheet.{oneRow}
+use Rattle.verdict.specs.Sheet.{oneRow, zeros}
 use Rattle.step.specs.Words.{bitsOf}
 use Rattle.step.specs.Cases.{no-true}
 use Rattle.step.specs.Derived.{derived}
@@ -32,7 +32,7 @@ use Rattle.step.specs.Solve.{lacks, Holds}
 use Rattle.step.specs.Determining.{determining, filled-only}
 use Rattle.step.specs.FieldRows.{upToOne}
 use Rattle.step.specs.Filling.{fillerBits, filled}
-use Rattle.step.specs.Batch.{low-bit, one-bit, of-bits, filled-cycle}
+use Rattle.step.specs.Batch.{one-bit, of-bits, filled-cycle}
 use Rattle.step.specs.Demand3.{Premises}
 
 -- is a column among those listed?
@@ -56,11 +56,6 @@ pub record Holding (cs : List ℕ) (n : ℕ) (row : List ℕ) : Type 0 where
   pub low-word : (c : ℕ) → (c ≡ ONE-COL + 1 → ⊥) → getD row (2 * c) 0 ≡ digit (has cs c)
   pub output : getD row (2 * (ONE-COL + 1)) 0 ≡ n
   pub high-word : (c : ℕ) → getD row (2 * c + 1) 0 ≡ 0
-
-zeros : (n i : ℕ) → _≡_ {A = ℕ} (getD (replicate n 0) i 0) 0
-zeros zero i = refl
-zeros (suc n) zero = refl
-zeros (suc n) (suc i) = zeros n i
 
 pub holding-none : Holding [] 0 (replicate 8192 0)
 unfolding has
@@ -111,22 +106,6 @@ holding-oneRow = holding-one [] 0 (replicate 8192 0) holding-none ONE-COL (omega
 
 -- ---- as elements and as bits
 
-pub column-is : (c : ℕ) → columnAt 1 c 0 ≡ c
-unfolding columnAt
-column-is c =
-    elim (decLt c 2048) [
-      | yes h ↦ sym (passed _ _ _ (lt-ltb c 2048 h)) ∙ omega (arith, mul-one c)
-      | no f ↦ sym (refused _ _ _ (le-ltb c 2048 (omega arith))) ∙ omega arith
-    ]
-
-digit-fits : (b : Bool) → digit b < 2 ^ 64
-digit-fits true = omega arith
-digit-fits false = omega arith
-
-bit-words : (b : Bool) → ofWords (digit b) 0 ≡ bitOf b
-bit-words true = words-one
-bit-words false = words-zero
-
 -- the one column is 1, the public element is not among the columns, and is a word other than 1 (so that its bit, which no row reads, is 0)
 pub record Fits (cs : List ℕ) (n : ℕ) : Type 0 where
   pub one : has cs ONE-COL ≡ true
@@ -171,7 +150,7 @@ module _ (cs : List ℕ) (n : ℕ) (row : List ℕ) (h : Holding cs n row) (t : 
           by-test : (k : Bool) → eqb c (ONE-COL + 1) ≡ k → getD row (2 * c) 0 < 2 ^ 64
           by-test true e =
               subst (λ (k : ℕ). getD row (2 * k) 0 < 2 ^ 64) (sym (eqb-true c (ONE-COL + 1) e)) (omega (arith, h .output, ltb-true n (2 ^ 64) (t .word)))
-          by-test false e = omega (arith, h .low-word c (eqb-false c (ONE-COL + 1) e), digit-fits (has cs c))
+          by-test false e = omega (arith, h .low-word c (eqb-false c (ONE-COL + 1) e), digit-lt (has cs c))
 
       go : (r : ℕ) → i % 2 ≡ r → getD row i 0 < 2 ^ 64
       go zero q = let e : 2 * (i / 2) ≡ i = omega arith in subst (λ (k : ℕ). getD row k 0 < 2 ^ 64) e (even (i / 2))

@@ -4,43 +4,38 @@ use mathlib.Core.Path.{_≡_, refl, sym, ap, ap₂, subst, _∙_}
 use mathlib.Core.Logic.{⊎-elim}
 use mathlib.Core.Bool.{Bool, true, false, cond, true≢false}
 use mathlib.Core.List.{List}
-use Prim.Native.Nat.{ℕ, zero, suc, _+_, _-_, _*_, _/_, _%_, _≤_, _<_}
+use Prim.Native.Nat.{ℕ, zero, suc, _+_, _*_, _/_, _%_, _≤_, _<_}
 use native.Mathlib.Nat.{eq-or-lt-of-le}
 use native.Mathlib.Decide.{decLt}
 use native.Mathlib.Omega.{arith}
-use borrow.Author.Tests.{lt-ltb, le-ltb, ltb-true}
+use borrow.Author.Tests.{lt-ltb, ltb-true}
 use lib.Arith.{digits-div, digits-lt}
 use lib.Dec.{ltb}
 use lib.ListN.{length, getD, set, length-set}
 use lib.Seq.{ext-getD, getD-set-same, getD-set-other}
 use Rattle.field.specs.Gf.{ofWords}
-use Rattle.field.specs.Gf.Laws.{words-zero, words-one, words-injective}
+use Rattle.field.specs.Gf.Laws.{words-injective}
 use Rattle.field.specs.Sums.{digit}
+use Rattle.field.specs.Gf.Bits.{bitOf, bit-words}
 use Rattle.layout.specs.Batch.{columnAt}
-use Rattle.layout.specs.Mapping.{witness-column}
-use Rattle.layout.specs.Questions.{refused}
+use Rattle.layout.specs.Mapping.{witness-column, public-column}
 use Rattle.verdict.specs.Row.{elementAt, cycleOf}
-use Rattle.verdict.specs.OverBits.{bitOf}
 use Rattle.step.specs.Derived.{derived, derivedIn, derived-below}
 use Rattle.step.specs.Filling.{NotDerived, SameElsewhere, put, putEach, filling}
 
 -- ---- one column put
 
-pub bit-words : (v : Bool) → ofWords (digit v) 0 ≡ bitOf v
-bit-words true = words-one
-bit-words false = words-zero
-
-put-length : (w : List ℕ) (x : ℕ) (v : Bool) → length (put w x v) ≡ length w
+pub put-length : (w : List ℕ) (x : ℕ) (v : Bool) → length (put w x v) ≡ length w
 put-length w x v = length-set (set w (2 * x) (digit v)) (2 * x + 1) 0 ∙ length-set w (2 * x) (digit v)
 
-put-here : (w : List ℕ) (x : ℕ) (v : Bool) → 2 * x + 1 < length w → elementAt (put w x v) x ≡ bitOf v
+pub put-here : (w : List ℕ) (x : ℕ) (v : Bool) → 2 * x + 1 < length w → elementAt (put w x v) x ≡ bitOf v
 put-here w x v l =
     ap₂ ofWords
     (getD-set-other (set w (2 * x) (digit v)) (2 * x + 1) (2 * x) 0 0 (omega arith) ∙ getD-set-same w (2 * x) (digit v) 0 (omega arith))
     (getD-set-same (set w (2 * x) (digit v)) (2 * x + 1) 0 0 (omega (arith, length-set w (2 * x) (digit v))))
     ∙ bit-words v
 
-put-elsewhere : (w : List ℕ) (x c : ℕ) (v : Bool) → (c ≡ x → ⊥) → elementAt (put w x v) c ≡ elementAt w c
+pub put-elsewhere : (w : List ℕ) (x c : ℕ) (v : Bool) → (c ≡ x → ⊥) → elementAt (put w x v) c ≡ elementAt w c
 put-elsewhere w x c v h =
     ap₂ ofWords
     (getD-set-other (set w (2 * x) (digit v)) (2 * x + 1) (2 * c) 0 0 (omega arith) ∙ getD-set-other w (2 * x) (2 * c) (digit v) 0 (omega arith))
@@ -92,11 +87,10 @@ module _ (q : ℕ → Bool) where
 
 -- a given column of a cycle, or a public one, stands at no derived batch column
 pub not-derived : (cpi c d : ℕ) → d < cpi → derived c ≡ false → NotDerived cpi (columnAt cpi c d)
-unfolding columnAt
 not-derived cpi c d h e m t =
     elim (decLt c 2048) [
       | yes k ↦ true≢false (sym t ∙ ap (derivedIn cpi) (witness-column cpi c d k) ∙ ap derived (digits-div c h) ∙ e)
-      | no f ↦ let p : 2048 * cpi + (c - 2048) ≡ columnAt cpi c d = refused _ _ _ (le-ltb c 2048 (omega arith)) in omega arith
+      | no f ↦ omega (arith, m, public-column cpi c d (omega arith))
     ]
 
 module _ (cpi : ℕ) (v : ℕ → Bool) (w : List ℕ) where

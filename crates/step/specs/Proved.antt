@@ -13,22 +13,22 @@ use Rattle.field.specs.declared.Gf128.{Gf128}
 use Rattle.field.specs.Gf as gf
 use Rattle.field.specs.Gf.{low}
 use Rattle.field.specs.Sums.{digit}
+use Rattle.field.specs.Sums.Laws.{same-bits}
+use Rattle.field.specs.Gf.Bits.{bitOf, low-bit}
 use Rattle.layout.specs.Columns.{ONE-COL, RS1, RS2, HALT, TAKEN}
 use Rattle.layout.specs.Batch.{allowed}
 use Rattle.layout.specs.Sizes.{allowed-range}
 use Rattle.layout.specs.Questions.{both}
+use Rattle.layout.specs.Lists.{All}
 use Rattle.circuit.specs.Rows.{Sides}
 use Rattle.circuit.specs.Circuit.{circuitWords}
 use Rattle.circuit.specs.House.{in-order}
 use Rattle.verdict.specs.declared.CheckAnswer.{CheckAnswer}
 use Rattle.verdict.specs.declared.CheckAnswer.the-variants.{Judged}
 use Rattle.verdict.specs.Row.{cycleOf, holds}
-use Rattle.verdict.specs.OverBits.{bitOf}
 use Rattle.verdict.specs.Check.{judged, checked}
-use Rattle.verdict.specs.Verdicts.{All}
 use Rattle.step.specs.Words.{bitsOf, word}
 use Rattle.step.specs.Cases.{no-true}
-use Rattle.step.specs.Numbers.{same-bits}
 use Rattle.step.specs.Step.{Step, opcode, funct3}
 use Rattle.step.specs.Branch.{branchHolds}
 use Rattle.step.specs.Derived.{derivedIn}
@@ -39,7 +39,7 @@ use Rattle.step.specs.Cycle.{all-bin}
 use Rattle.step.specs.Filling.{filling, countFillings, fillerBits, filled}
 use Rattle.step.specs.Count.{count-one, count-none}
 use Rattle.step.specs.Placed.{filling-length}
-use Rattle.step.specs.Batch.{low-bit, RowsHold, same-given, of-bits, same-bits-as-filler, is-filled, split, filled-determined, rows-or-conditions, same-filled}
+use Rattle.step.specs.Batch.{RowsHold, same-given, of-bits, same-bits-as-filler, is-filled, split, filled-determined, rows-or-conditions, same-filled}
 use Rattle.step.specs.Listings.{judged-accepts, checked-answer, same-further, Listed, cycle-rows, house}
 use Rattle.step.specs.Demand3.{Premises, accepts, fails, Compares, TakesBranch, Demand3}
 

@@ -11,17 +11,19 @@ use lib.ListN.{length, replicate}
 use Rattle.field.specs.Gf as gf
 use Rattle.field.specs.Gf.{ofWords}
 use Rattle.field.specs.Sums.{digit, val}
+use Rattle.field.specs.Gf.Bits.{bitOf}
 use Rattle.layout.specs.Columns.{ONE-COL, RS1, RD, T1, T2, ALU, SUB, WE, IS-LOAD, IS-STORE, IS-ARITH, IS-SHIFT, LD-BYTE, LD-HALF, LD-WORD, RAM-ADDR, FETCH-OP}
 use Rattle.layout.specs.declared.Asked.the-variants.{Yes}
 use Rattle.layout.specs.Batch.{allowed}
+use Rattle.layout.specs.Lists.{joined}
 use Rattle.circuit.specs.declared.Relation.the-variants.{Bin, Fld}
-use Rattle.circuit.specs.Rows.{from, fromEach, joined}
+use Rattle.circuit.specs.Rows.{from, fromEach}
 use Rattle.circuit.specs.Circuit.{circuitWords}
 use Rattle.verdict.specs.declared.Verdict.{Verdict}
 use Rattle.verdict.specs.declared.Verdict.the-variants.{Accepted, Failed}
 use Rattle.verdict.specs.declared.CheckAnswer.the-variants.{Judged}
 use Rattle.verdict.specs.Row.{elementAt}
-use Rattle.verdict.specs.OverBits.{bitOf, sumBits}
+use Rattle.verdict.specs.OverBits.{sumBits}
 use Rattle.verdict.specs.Check.{judged, checked}
 use Rattle.verdict.specs.Sheet.{oneRow}
 use Rattle.step.specs.Words.{_⊻_, word}

@@ -2,10 +2,11 @@
 -- Assumes nothing.
 use mathlib.Core.Path.{_≡_}
 use mathlib.Core.Bool.{Bool, true, false}
-use Prim.Native.Nat.{ℕ, _+_, _*_, _%_, _^_}
+use Prim.Native.Nat.{ℕ, _+_, _*_, _%_, _^_, _<_}
 use Rattle.field.specs.declared.Gf128.{Gf128}
 use Rattle.field.specs.Gf.{ofWords}
 use Rattle.field.specs.Sums.{digit}
+use Rattle.field.specs.Sums.Laws.{val-lt}
 use Rattle.layout.specs.Columns.{RS1, RD, LOAD-VAL, SHIFT-OUT, T1, T2, ALU, SUB, WE, IS-LOAD, IS-STORE, IS-ARITH, IS-SHIFT, LD-BYTE, LD-HALF, LD-WORD, OFF, RAM-ADDR, FETCH-OP, FETCH-FUNCT3}
 use Rattle.step.specs.Words.{_⊻_, word}
 
@@ -45,3 +46,10 @@ pub record Step (b : ℕ → Bool) (output : Gf128) : Type 0 where
   pub second-zero : b IS-LOAD ≡ true → b LD-WORD ≡ false → b LD-HALF ≡ false → word b (RD + 8) 8 ≡ 0
   -- 10. just one of load and store: RAM_ADDR is ALU bits 3..10
   pub address : (b IS-LOAD ⊻ b IS-STORE) ≡ true → word b RAM-ADDR 8 ≡ word b (ALU + 3) 8
+
+-- OFF and funct3 have three bits
+pub offset-lt : (b : ℕ → Bool) → offset b < 8
+offset-lt b = val-lt 3 (λ i. b (OFF + i))
+
+pub funct3-lt : (b : ℕ → Bool) → funct3 b < 8
+funct3-lt b = val-lt 3 (λ i. b (FETCH-FUNCT3 + i))

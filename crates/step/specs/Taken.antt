@@ -8,15 +8,14 @@ use Prim.Native.Nat.{ℕ, zero, suc, _+_, _<_}
 use native.Mathlib.Omega.{arith}
 use borrow.Author.Tests.{eqb-true, eq-eqb}
 use lib.Dec.{eqb, ltb}
-use Rattle.field.specs.Gf.Packed.{val-lt}
-use Rattle.layout.specs.Columns.{RS1, RS2, T1, T2, CARRY-OFF, ALU, SUB, HALT, TAKEN, FETCH-FUNCT3, ZERO, LTSA, LTSB, LTUA, LTUB}
+use Rattle.field.specs.Sums.Laws.{val-same}
+use Rattle.layout.specs.Columns.{RS1, RS2, T1, T2, CARRY-OFF, ALU, SUB, HALT, TAKEN, ZERO, LTSA, LTSB, LTUA, LTUB}
 use Rattle.step.specs.Cases.{of-three}
 use Rattle.step.specs.Words.{_⊻_, word}
-use Rattle.step.specs.Numbers.{val-same}
 use Rattle.step.specs.Adder.{majority, Carries}
 use Rattle.step.specs.Compare.{signedLess, unsigned-less, equal-words, signed-less}
 use Rattle.step.specs.Branch.{belowSigned, branchHolds}
-use Rattle.step.specs.Step.{opcode, funct3}
+use Rattle.step.specs.Step.{opcode, funct3, funct3-lt}
 use Rattle.step.specs.Determined.{Determined}
 use Rattle.step.specs.Conditions.{Summed}
 
@@ -85,6 +84,6 @@ module _ (b : ℕ → Bool) (f : Determined b) (t1 : (i : ℕ) → i < 64 → b 
         equal,
         below,
         under,
-        mux (funct3 b) (val-lt 3 (λ i. b (FETCH-FUNCT3 + i)))
+        mux (funct3 b) (funct3-lt b)
             (eqb (word b RS1 64) (word b RS2 64)) (belowSigned (word b RS1 64) (word b RS2 64)) (ltb (word b RS1 64) (word b RS2 64)),
       ))

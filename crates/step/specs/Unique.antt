@@ -8,8 +8,8 @@ use borrow.Author.Tests.{not-true}
 use lib.Dec.{eqb}
 use Rattle.layout.specs.Columns.{ONE-COL}
 use Rattle.layout.specs.Questions.{both}
+use Rattle.layout.specs.Lists.{All}
 use Rattle.circuit.specs.Rows.{Sides}
-use Rattle.verdict.specs.Verdicts.{All}
 use Rattle.step.specs.Cases.{xor-cancel, xor-self}
 use Rattle.step.specs.Derived.{derived, one-given}
 use Rattle.step.specs.Solve.{Holds, target, setBit, solution, solve}

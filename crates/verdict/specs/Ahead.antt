@@ -1,11 +1,12 @@
 -- Some cycles at a time: where every row of a part holds in each of them, the walk goes on behind them.
 -- Assumes nothing.
-use mathlib.Core.Path.{_≡_, refl, sym, ap, subst, _∙_}
+use mathlib.Core.Path.{_≡_, sym, ap, subst, _∙_}
 use mathlib.Core.Bool.{Bool, true}
-use mathlib.Core.List.{List, [], _∷_, _++_, map}
+use mathlib.Core.List.{List, map}
 use Prim.Native.Nat.{ℕ, zero, suc, _+_, _*_, _<_, _≤_}
 use native.Mathlib.Omega.{arith}
-use lib.ListN.{length, drop}
+use lib.ListN.{length, drop, length-map}
+use Rattle.layout.specs.Lists.{All, all-map, all-then}
 use Rattle.circuit.specs.Rows.{Row, Sides}
 use Rattle.circuit.specs.Parse.{parse, rowsOf}
 use Rattle.verdict.specs.declared.Verdict.{Verdict}
@@ -13,7 +14,7 @@ use Rattle.verdict.specs.Row.{cycleOf, holds}
 use Rattle.verdict.specs.Check.{Constraint, inCycle, met, run}
 use Rattle.verdict.specs.Walks.{RowEnds}
 use Rattle.verdict.specs.Left.{partAt, leftCycles, leftRows, cycle-step}
-use Rattle.verdict.specs.Verdicts.{All, run-past}
+use Rattle.verdict.specs.Verdicts.{run-past}
 
 -- a row's sides hold in each of the n cycles from d on
 abbrev pub HoldsAhead : ℕ → List ℕ → ℕ → Sides → ℕ → Type 0
@@ -34,10 +35,6 @@ pub record PartAhead (cpi : ℕ) (batch : List ℕ) (d n : ℕ) (part : List ℕ
 
 -- ---- the walk behind them
 
-same-length : (d : ℕ) (rs : List Row) → length (map (inCycle d) rs) ≡ length rs
-same-length d [] = refl
-same-length d (r ∷ rs) = ap suc (same-length d rs)
-
 module _ (cpi : ℕ) (batch bin fld : List ℕ) (part : List ℕ) (r : ℕ) (is : part ≡ partAt bin fld r) where
   abbrev test : Constraint → Bool
   test = met (cycleOf cpi batch)
@@ -47,18 +44,16 @@ module _ (cpi : ℕ) (batch bin fld : List ℕ) (part : List ℕ) (r : ℕ) (is 
       → run test t (leftCycles cpi bin fld r d) ≡ v → run test (t + length (rowsOf part)) (leftCycles cpi bin fld r (d + 1)) ≡ v
   unfolding leftRows
   behind-one v d t h m e =
-      ap (λ (k : ℕ). run test (t + k) (leftCycles cpi bin fld r (d + 1))) (sym (same-length d (rowsOf part)))
+      ap (λ (k : ℕ). run test (t + k) (leftCycles cpi bin fld r (d + 1))) (sym (length-map (rowsOf part) (inCycle d)))
       ∙ sym (run-past test (map (inCycle d) (rowsOf part)) (leftCycles cpi bin fld r (d + 1)) t m)
       ∙ ap (run test t) (sym (cycle-step cpi bin fld r d h part is)) ∙ e
 
   -- the last cycle, and those before
   last : (d n : ℕ) (rs : List Row) → All (λ r. HoldsAhead cpi batch d (r .sides) (suc n)) rs → All (λ k. test k ≡ true) (map (inCycle (d + n)) rs)
-  last d n [] p = tt
-  last d n (r ∷ rs) p = (p .0 .1, last d n rs (p .1))
+  last d n rs p = all-map (λ k. test k ≡ true) (inCycle (d + n)) rs .1 (all-then _ _ (λ r h. h .1) rs p)
 
   fewer : (d n : ℕ) (rs : List Row) → All (λ r. HoldsAhead cpi batch d (r .sides) (suc n)) rs → All (λ r. HoldsAhead cpi batch d (r .sides) n) rs
-  fewer d n [] p = tt
-  fewer d n (r ∷ rs) p = (p .0 .0, fewer d n rs (p .1))
+  fewer d n = all-then _ _ (λ r h. h .0)
 
   same : (v : Verdict) (t u a b : ℕ) → t ≡ u → a ≡ b → run test t (leftCycles cpi bin fld r a) ≡ v → run test u (leftCycles cpi bin fld r b) ≡ v
   same v t u a b p q e = sym (ap (λ (k : ℕ). run test k (leftCycles cpi bin fld r b)) p) ∙ sym (ap (λ (k : ℕ). run test t (leftCycles cpi bin fld r k)) q) ∙ e

@@ -59,6 +59,16 @@ module _ (test : ℕ → Bool) where
   unfolding firstFrom
   first-ends i limit h = let s : limit - i ≡ 0 = omega arith in rw s
 
+  -- it starts at its first number
+  pub first-from : (n i : ℕ) → i ≤ firstFrom test i n
+  unfolding firstFrom
+  first-from zero i = omega arith
+  first-from (suc n) i = by-test (test i) (first-from n (i + 1))
+    where
+      by-test : (b : Bool) → i + 1 ≤ firstFrom test (i + 1) n → i ≤ cond b i (firstFrom test (i + 1) n)
+      by-test true h = omega arith
+      by-test false h = omega arith
+
   -- it passes the test where it is one of the n, and none before it does
   pub first-passes : (n i : ℕ) → firstFrom test i n < i + n → test (firstFrom test i n) ≡ true
   unfolding firstFrom

@@ -5,12 +5,12 @@ use mathlib.Core.List.{List, [], _∷_, _++_}
 use Prim.Native.Nat.{ℕ}
 use Rattle.field.specs.declared.Gf128.{Gf128}
 use Rattle.field.specs.Gf.{added, product, power}
+use Rattle.layout.specs.Lists.{All, all-left, all-right}
 use Rattle.circuit.specs.declared.Coefficient.{Coefficient}
 use Rattle.circuit.specs.declared.Coefficient.the-variants.{Zero, Power}
 use Rattle.circuit.specs.Rows.{Term, Sides}
 use Rattle.verdict.specs.declared.Sums.{Sums}
 use Rattle.verdict.specs.Row.{times, sumOf, balanced, holds}
-use Rattle.verdict.specs.Verdicts.{All, all-left, all-right}
 
 -- the column of a term, unless its coefficient is zero
 abbrev pub name : Coefficient → ℕ → List ℕ

@@ -3,7 +3,7 @@
 use mathlib.Core.Path.{_≡_, refl, sym, ap, _∙_}
 use mathlib.Core.Bool.{Bool, true, false, cond}
 use mathlib.Core.List.{List, [], _∷_, _++_, map, append-assoc, append-nil}
-use Prim.Native.Nat.{ℕ, zero, suc, _+_, _-_, _<_, _≤_, _%_, _^_}
+use Prim.Native.Nat.{ℕ, _+_, _-_, _<_, _≤_}
 use native.Mathlib.Nat.{sub-zero}
 use native.Mathlib.Numerals.{add-one}
 use native.Mathlib.Omega.{arith}
@@ -11,13 +11,14 @@ use lib.Dec.{eqb}
 use lib.ListN.{length, getD, drop, drop-of-length-le}
 use lib.Seq.{drop-cons}
 use Rattle.layout.specs.Questions.{passed, refused}
-use Rattle.circuit.specs.Words.{isMark, relationOf}
+use Rattle.circuit.specs.Words.{isMark}
 use Rattle.circuit.specs.Rows.{Row, fromEach}
 use Rattle.circuit.specs.Parse.{parse, rowsOf}
 use Rattle.circuit.specs.Batched.{batchRow}
+use Rattle.circuit.specs.Families.{each-step, each-end}
 use Rattle.verdict.specs.declared.Verdict.{Verdict}
 use Rattle.verdict.specs.declared.Verdict.the-variants.{Failed}
-use Rattle.verdict.specs.Runs.{parse-mark}
+use Rattle.verdict.specs.Runs.{rowOf, rows-mark}
 use Rattle.verdict.specs.Walks.{RowEnds}
 use Rattle.verdict.specs.Check.{Constraint, inCycle, inCycles, run}
 
@@ -35,25 +36,16 @@ of-parts P bin fld p q r = by-test (eqb r 0)
 
 -- the row whose mark stands at an index
 abbrev pub rowAt : List ℕ → ℕ → Row
-rowAt part at =
-    record { relation = relationOf (getD part at 0); number = getD part at 0 % 2 ^ 9; sides = parse (drop (at + 1) part) .before }
+rowAt part at = rowOf (getD part at 0) (drop (at + 1) part)
 
 -- the rows from there on: that row, and those behind it
 pub rows-here : (part : List ℕ) (at end : ℕ) → at < length part → isMark (getD part at 0) ≡ true → RowEnds part (at + 1) end
     → rowsOf (drop at part) ≡ rowAt part at ∷ rowsOf (drop end part)
 rows-here part at end h m e =
     ap rowsOf (drop-cons part at 0 h) ∙ ap (λ n. rowsOf (getD part at 0 ∷ drop n part)) (sym (add-one at))
-    ∙ ap (λ p. p .rows) (parse-mark (getD part at 0) (drop (at + 1) part) m) ∙ ap (λ rs. rowAt part at ∷ rs) (sym (e .rows-left))
+    ∙ rows-mark (getD part at 0) (drop (at + 1) part) m ∙ ap (λ rs. rowAt part at ∷ rs) (sym (e .rows-left))
 
--- ---- a list that is made piece by piece
-
-from-step : {A : Type 0} (f : ℕ → List A) (n i : ℕ) → i < n → fromEach i (n - i) f ≡ f i ++ fromEach (i + 1) (n - (i + 1)) f
-unfolding fromEach
-from-step f n i h = let e : n - i ≡ suc (n - (i + 1)) = omega arith in rw (e, add-one)
-
-from-end : {A : Type 0} (f : ℕ → List A) (n i : ℕ) → n ≤ i → fromEach i (n - i) f ≡ []
-unfolding fromEach
-from-end f n i h = let e : n - i ≡ 0 = omega arith in rw e
+-- ---- what is left
 
 module _ (cpi : ℕ) (bin fld : List ℕ) where
   abbrev inPart : ℕ → List Constraint
@@ -71,19 +63,19 @@ module _ (cpi : ℕ) (bin fld : List ℕ) where
 
   pub relation-step : (r : ℕ) → r < 2 → allParts r ≡ leftCycles r 0
   unfolding allParts leftCycles
-  relation-step r h = rw (from-step inPart 2 r h, sub-zero)
+  relation-step r h = rw (each-step inPart 2 r h, sub-zero)
 
   pub relation-end : (r : ℕ) → r ≡ 2 → allParts r ≡ []
   unfolding allParts
-  relation-end r e = from-end inPart 2 r (omega arith)
+  relation-end r e = each-end inPart 2 r (omega arith)
 
   pub cycle-step : (r d : ℕ) → d < cpi → (part : List ℕ) → part ≡ partAt bin fld r → leftCycles r d ≡ leftRows part r d 0
   unfolding leftCycles leftRows
-  cycle-step r d h part e = rw (from-step (λ e. map (inCycle e) (rowsOf (partAt bin fld r))) cpi d h, append-assoc, e)
+  cycle-step r d h part e = rw (each-step (λ e. map (inCycle e) (rowsOf (partAt bin fld r))) cpi d h, append-assoc, e)
 
   pub cycle-end : (r d : ℕ) → cpi ≤ d → leftCycles r d ≡ allParts (r + 1)
   unfolding leftCycles
-  cycle-end r d h = rw (from-end (λ e. map (inCycle e) (rowsOf (partAt bin fld r))) cpi d h)
+  cycle-end r d h = rw (each-end (λ e. map (inCycle e) (rowsOf (partAt bin fld r))) cpi d h)
 
   pub row-end : (part : List ℕ) (r d at : ℕ) → length part ≤ at → leftRows part r d at ≡ leftCycles r (d + 1)
   unfolding leftRows parse

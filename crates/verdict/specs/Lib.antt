@@ -1,4 +1,5 @@
 pub mod Row
+pub mod SideSums
 pub mod Check
 pub mod Apply
 pub mod Bits

@@ -2,7 +2,7 @@
 -- or and products are and.
 -- Assumes nothing.
 use mathlib.Core.Path.{_≡_, refl, sym, ap, ap₂, _∙_}
-use mathlib.Core.Bool.{Bool, true, false, not, cond, _&&_}
+use mathlib.Core.Bool.{Bool, true, false, not, _&&_}
 use mathlib.Core.List.{List, [], _∷_}
 use Prim.Native.Nat.{ℕ}
 use borrow.Author.Tests.{eqb-true}
@@ -11,15 +11,12 @@ use Rattle.field.specs.declared.Gf128.{Gf128}
 use Rattle.field.specs.Gf.{zero, one, same, added, product, power}
 use Rattle.field.specs.Gf.Laws.{zero≢one, proper-zero, proper-one, add-zero, zero-add, add-self, zero-mul, mul-one, one-mul, power-zero}
 use Rattle.field.specs.Gf.Tests.{same-true, same-self}
+use Rattle.field.specs.Gf.Bits.{bitOf}
 use Rattle.layout.specs.Questions.{both}
 use Rattle.circuit.specs.declared.Coefficient.{Coefficient}
 use Rattle.circuit.specs.declared.Coefficient.the-variants.{Zero, Power}
 use Rattle.circuit.specs.Rows.{Term, Sides}
 use Rattle.verdict.specs.Row.{times, sumOf, balanced, holds}
-
--- 0 or 1 as an element
-abbrev pub bitOf : Bool → Gf128
-bitOf b = cond b one zero
 
 abbrev pub xor : Bool → Bool → Bool
 xor true b = not b

@@ -33,10 +33,13 @@ unfoldable pub sorted : ℕ → List ℕ → Bool
 sorted kind [] = true
 sorted kind (w ∷ ws) = cond (isMark w) (sorted 0 ws) (leb kind (kindOf w) && sorted (kindOf w) ws)
 
+-- the row that a mark heads
+abbrev pub rowOf : ℕ → List ℕ → Row
+rowOf w ws = record { relation = relationOf w; number = w % 2 ^ 9; sides = parse ws .before }
+
 -- ---- parsing a word
 
-pub parse-mark : (w : ℕ) (ws : List ℕ) → isMark w ≡ true
-    → parse (w ∷ ws) ≡ record { before = empty; rows = record { relation = relationOf w; number = w % 2 ^ 9; sides = parse ws .before } ∷ parse ws .rows }
+pub parse-mark : (w : ℕ) (ws : List ℕ) → isMark w ≡ true → parse (w ∷ ws) ≡ record { before = empty; rows = rowOf w ws ∷ parse ws .rows }
 unfolding parse wordOf
 parse-mark w ws e = rw e
 
@@ -44,6 +47,12 @@ pub parse-term : (w : ℕ) (ws : List ℕ) → isMark w ≡ false
     → parse (w ∷ ws) ≡ record { before = inFront (kindOf w) (termOf w) (parse ws .before); rows = parse ws .rows }
 unfolding parse wordOf
 parse-term w ws e = rw e
+
+pub rows-mark : (w : ℕ) (ws : List ℕ) → isMark w ≡ true → rowsOf (w ∷ ws) ≡ rowOf w ws ∷ rowsOf ws
+rows-mark w ws m = ap (λ p. p .rows) (parse-mark w ws m)
+
+pub rows-term : (w : ℕ) (ws : List ℕ) → isMark w ≡ false → rowsOf (w ∷ ws) ≡ rowsOf ws
+rows-term w ws m = ap (λ p. p .rows) (parse-term w ws m)
 
 -- ---- a run
 

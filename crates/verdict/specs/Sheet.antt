@@ -1,14 +1,12 @@
 -- P4 and P5 of the bench sheet, of the check's own result: the all-zero row is accepted with rows 514; with only the one column 1, bin row
 -- 263 fails with rows 264.
 -- Assumes nothing.
-use mathlib.Core.Path.{_≡_, refl, sym, ap, ap₂, _∙_}
+use mathlib.Core.Path.{_≡_, refl, ap, ap₂, _∙_}
 use mathlib.Core.Bool.{Bool, true, false, cond, _&&_}
 use mathlib.Core.List.{List, [], _∷_, _++_, map}
 use Prim.Native.Nat.{ℕ, zero, suc, _+_, _-_, _*_, _≤_, _<_}
-use native.Mathlib.Decide.{decLt}
-use native.Mathlib.Nat.{mul-one, add-zero}
 use native.Mathlib.Omega.{arith}
-use borrow.Author.Tests.{eq-eqb, ne-eqb, lt-ltb, le-ltb, eqb-true, eqb-false}
+use borrow.Author.Tests.{eqb-true, eqb-false}
 use lib.Dec.{eqb, ltb}
 use lib.ListN.{length, getD, set, replicate, length-set, length-replicate}
 use lib.Seq.{getD-set-same, getD-set-other}
@@ -17,40 +15,36 @@ use Rattle.field.specs.Gf.{ofWords, same, product, power, added}
 use Rattle.field.specs.Gf as gf
 use Rattle.field.specs.Gf.Laws.{words-zero, words-one, zero-mul, add-zero as add-nothing}
 use Rattle.field.specs.Gf.Tests.{same-self}
-use Rattle.layout.specs.declared.Asked.the-variants.{Yes}
+use Rattle.field.specs.Gf.Bits.{bitOf}
 use Rattle.layout.specs.Batch.{allowed, columnAt}
-use Rattle.layout.specs.Questions.{both, passed, refused}
+use Rattle.layout.specs.Questions.{both, passed}
+use Rattle.layout.specs.Lists.{joined, All, all-append, all-map, all-every}
+use Rattle.layout.specs.Mapping.{column-is}
 use Rattle.circuit.specs.declared.Coefficient.{Coefficient}
 use Rattle.circuit.specs.declared.Coefficient.the-variants.{Zero, Power}
 use Rattle.circuit.specs.declared.Relation.the-variants.{Bin, Fld}
-use Rattle.circuit.specs.Rows.{Term, Sides, Row, from, fromEach, joined, numbered}
+use Rattle.circuit.specs.Rows.{Term, Sides, Row, from, fromEach, numbered}
 use Rattle.circuit.specs.Circuit.{binFamilies, fldFamilies, circuitRows, circuitWords}
 use Rattle.circuit.specs.Parse.{rowsOf}
 use Rattle.circuit.specs.House.{words-read, in-order, counts}
-use Rattle.circuit.specs.Valid.{validated}
 use Rattle.verdict.specs.declared.Verdict.the-variants.{Accepted, Failed}
 use Rattle.verdict.specs.declared.CheckAnswer.the-variants.{Judged}
 use Rattle.verdict.specs.Row.{elementAt, cycleOf, times, sumOf, balanced, holds}
-use Rattle.verdict.specs.Check.{Checked, Constraint, inCycle, inCycles, ofRelation, constraints, met, run, judged, asked, after, checked}
-use Rattle.verdict.specs.Verdicts.{All, all-append, run-same, run-stops, accepts}
-use Rattle.verdict.specs.OverBits.{bitOf, plain, plainRow, sumBits, holdsBits, holds-bits}
+use Rattle.verdict.specs.Check.{Constraint, inCycle, inCycles, ofRelation, constraints, met, run, judged, checked}
+use Rattle.verdict.specs.Verdicts.{run-same, run-stops, accepts, answered-yes}
+use Rattle.verdict.specs.OverBits.{plain, plainRow, sumBits, holdsBits, holds-bits}
 
 -- ---- the questions are passed, whatever stands in batch and scratch
 
-checked-is : (batch scratch : List ℕ) → length batch ≡ 8192 → length scratch ≡ 3072
+pub checked-is : (batch scratch : List ℕ) → length batch ≡ 8192 → length scratch ≡ 3072
     → checked 1 circuitWords batch scratch ≡ record { answer = Judged (judged 1 circuitWords batch); scratch = replicate 3072 0 }
-unfolding checked asked allowed
-checked-is batch scratch b s =
-    ap (λ q. after q (judged 1 circuitWords batch) scratch)
-    (sym (listed ∙ passed _ _ _ (eq-eqb (length scratch) 3072 s) ∙ passed _ _ _ (eq-eqb (length batch) (8192 * 1) b)))
-    ∙ ap (λ n. record { answer = Judged (judged 1 circuitWords batch); scratch = replicate n 0 }) s
-  where
-    listed : Yes ≡ validated circuitWords
-    listed = sym in-order
+unfolding allowed
+checked-is batch scratch b s = answered-yes 1 circuitWords batch scratch refl in-order s b
 
 -- ---- P4: over zeros every sum is zero
 
-zeros : (n i : ℕ) → _≡_ {A = ℕ} (getD (replicate n 0) i 0) 0
+-- a list of zeros, and past its end
+pub zeros : (n i : ℕ) → _≡_ {A = ℕ} (getD (replicate n 0) i 0) 0
 zeros zero i = refl
 zeros (suc n) zero = refl
 zeros (suc n) (suc i) = zeros n i
@@ -73,14 +67,10 @@ module _ (z : ℕ → Gf128) (none : (c : ℕ) → z c ≡ gf.zero) where
   unfolding balanced
   holds-zero s = ap₂ same (ap₂ product (sum-zero (s .a)) (sum-zero (s .b)) ∙ zero-mul gf.zero) (sum-zero (s .c)) ∙ same-self gf.zero
 
-  all-hold : (rs : List Row) → All (λ r. holds z (r .sides) ≡ true) rs
-  all-hold [] = tt
-  all-hold (r ∷ rs) = (holds-zero (r .sides), all-hold rs)
-
 -- whatever the batch size
 pub zeros-accepted : (cpi n : ℕ) → judged cpi circuitWords (replicate n 0) ≡ Accepted (cpi * 514)
 zeros-accepted cpi n =
-    accepts cpi circuitWords (replicate n 0) (λ d h. all-hold (cycleOf cpi (replicate n 0) d) (nothing n cpi d) (rowsOf circuitWords))
+    accepts cpi circuitWords (replicate n 0) (λ d h. all-every _ (λ r. holds-zero (cycleOf cpi (replicate n 0) d) (nothing n cpi d) (r .sides)) (rowsOf circuitWords))
     ∙ ap (λ (rs : List Row). Accepted (cpi * length rs)) words-read ∙ ap (λ (k : ℕ). Accepted (cpi * k)) (counts .rows)
 
 pub p4 : (scratch : List ℕ) → length scratch ≡ 3072
@@ -97,14 +87,6 @@ oneRow = set (replicate 8192 0) 4096 1
 
 abbrev isOneColumn : ℕ → Bool
 isOneColumn c = eqb c 2048
-
-column-is : (c : ℕ) → columnAt 1 c 0 ≡ c
-unfolding columnAt
-column-is c =
-    elim (decLt c 2048) [
-      | yes h ↦ sym (passed _ _ _ (lt-ltb c 2048 h)) ∙ omega (arith, mul-one c)
-      | no f ↦ sym (refused _ _ _ (le-ltb c 2048 (omega arith))) ∙ omega arith
-    ]
 
 word-other : (i : ℕ) → (i ≡ 4096 → ⊥) → getD oneRow i 0 ≡ 0
 word-other i f = getD-set-other (replicate 8192 0) 4096 i 1 0 f ∙ zeros 8192 i
@@ -147,11 +129,7 @@ bins = inCycles 0 1 (ofRelation Bin circuitRows)
 
 all-zero : (rs : List Row) → All atZero (inCycles 0 1 rs)
 unfolding fromEach
-all-zero rs = all-append atZero (map (inCycle 0) rs) [] (in-zero rs) tt
-  where
-    in-zero : (rs : List Row) → All atZero (map (inCycle 0) rs)
-    in-zero [] = tt
-    in-zero (r ∷ rs) = (refl, in-zero rs)
+all-zero rs = all-append atZero (map (inCycle 0) rs) [] (all-map atZero (inCycle 0) rs .1 (all-every _ (λ r. refl) rs)) tt
 
 -- the two computed tests
 bins-plain : plainBins bins ≡ true

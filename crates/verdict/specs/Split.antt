@@ -19,7 +19,7 @@ use Rattle.circuit.specs.Parse.{Parsed, empty, inFront, parse, rowsOf}
 use Rattle.circuit.specs.Found.{until}
 use Rattle.circuit.specs.Search.{until-le}
 use Rattle.circuit.specs.Valid.{orderOf, validFrom, validated}
-use Rattle.verdict.specs.Runs.{sorted, termOf, parse-mark, parse-term}
+use Rattle.verdict.specs.Runs.{sorted, termOf, parse-mark, parse-term, rowOf, rows-mark, rows-term}
 use Rattle.verdict.specs.Check.{ofRelation}
 use Rattle.verdict.specs.Order.{isFldMark, Passed, passed-word, valid-rows}
 
@@ -87,15 +87,6 @@ keeps-bin r rs e = rw e (refl, refl)
 keeps-fld : (r : Row) (rs : List Row) → r .relation ≡ Fld → (ofRelation Bin (r ∷ rs) ≡ ofRelation Bin rs) × (ofRelation Fld (r ∷ rs) ≡ r ∷ ofRelation Fld rs)
 unfolding ofRelation
 keeps-fld r rs e = rw e (refl, refl)
-
-abbrev rowOf : ℕ → List ℕ → Row
-rowOf w ws = record { relation = relationOf w; number = w % 2 ^ 9; sides = parse ws .before }
-
-rows-mark : (w : ℕ) (ws : List ℕ) → isMark w ≡ true → rowsOf (w ∷ ws) ≡ rowOf w ws ∷ rowsOf ws
-rows-mark w ws m = ap (λ p. p .rows) (parse-mark w ws m)
-
-rows-term : (w : ℕ) (ws : List ℕ) → isMark w ≡ false → rowsOf (w ∷ ws) ≡ rowsOf ws
-rows-term w ws m = ap (λ p. p .rows) (parse-term w ws m)
 
 only-fld : (ws : List ℕ) → fldOnly ws ≡ true → (ofRelation Bin (rowsOf ws) ≡ []) × (ofRelation Fld (rowsOf ws) ≡ rowsOf ws)
 unfolding fldOnly ofRelation parse

@@ -1,43 +1,32 @@
 -- What a verdict says, for whoever builds on it: acceptance is that every row holds in every cycle; a failure names the first constraint
 -- that does not hold, and counts those before it; the walk can be cut anywhere.
 -- Assumes nothing.
-use mathlib.Core.Path.{_≡_, refl, sym, ap, ap₂, subst, _∙_}
-use mathlib.Core.Logic.{_↔_, ⊎-elim}
+use mathlib.Core.Path.{_≡_, refl, sym, ap, ap₂, _∙_}
+use mathlib.Core.Logic.{_↔_}
 use mathlib.Core.Bool.{Bool, true, false, cond, true≢false, false≢true}
 use mathlib.Core.List.{List, [], _∷_, _++_, map}
 use Prim.Native.Nat.{ℕ, zero, suc, _+_, _*_, _<_, _≤_}
-use native.Mathlib.Nat.{add-zero, suc-mul, mul-add, eq-or-lt-of-le}
+use native.Mathlib.Nat.{add-zero, suc-mul, mul-add}
 use native.Mathlib.Numerals.{add-one}
 use native.Mathlib.Omega.{arith}
-use lib.ListN.{length, length-append}
+use borrow.Author.Tests.{eq-eqb}
+use lib.ListN.{length, length-append, length-map, replicate}
 use Rattle.layout.specs.Questions.{passed, refused}
+use Rattle.layout.specs.Lists.{All, all-append, all-left, all-right, all-map}
+use Rattle.layout.specs.declared.Asked.the-variants.{Yes}
+use Rattle.layout.specs.Batch.{allowed}
 use Rattle.circuit.specs.declared.Relation.{Relation}
 use Rattle.circuit.specs.declared.Relation.the-variants.{Bin, Fld}
 use Rattle.circuit.specs.Rows.{Row, fromEach}
 use Rattle.circuit.specs.Parse.{rowsOf}
 use Rattle.circuit.specs.Batched.{batchRow}
+use Rattle.circuit.specs.Families.{all-each}
+use Rattle.circuit.specs.Valid.{validated}
 use Rattle.verdict.specs.declared.Verdict.{Verdict}
 use Rattle.verdict.specs.declared.Verdict.the-variants.{Accepted, Failed}
-use Rattle.verdict.specs.Check.{Constraint, inCycle, sameRelation, ofRelation, inCycles, constraints, met, run, judged}
+use Rattle.verdict.specs.Check.{Constraint, inCycle, sameRelation, ofRelation, inCycles, constraints, met, run, judged, asked, after, checked}
 use Rattle.verdict.specs.Row.{cycleOf, holds}
-
--- something is so of every element of a list
-abbrev pub All : {A : Type 0} → (A → Type 0) → List A → Type 0
-All P [] = Unit
-All P (x ∷ xs) = P x × All P xs
-
-module _ {A : Type 0} (P : A → Type 0) where
-  pub all-append : (xs ys : List A) → All P xs → All P ys → All P (xs ++ ys)
-  all-append [] ys p q = q
-  all-append (x ∷ xs) ys p q = (p .0, all-append xs ys (p .1) q)
-
-  pub all-left : (xs ys : List A) → All P (xs ++ ys) → All P xs
-  all-left [] ys p = tt
-  all-left (x ∷ xs) ys p = (p .0, all-left xs ys (p .1))
-
-  pub all-right : (xs ys : List A) → All P (xs ++ ys) → All P ys
-  all-right [] ys p = p
-  all-right (x ∷ xs) ys p = all-right xs ys (p .1)
+use Rattle.verdict.specs.declared.CheckAnswer.the-variants.{Judged}
 
 -- ---- the walk, for any test
 
@@ -143,11 +132,7 @@ count-cycles : (rs : List Row) (n d : ℕ) → length (inCycles d n rs) ≡ n * 
 unfolding fromEach
 count-cycles rs zero d = omega arith
 count-cycles rs (suc n) d =
-    length-append (map (inCycle d) rs) (inCycles (suc d) n rs) ∙ ap₂ _+_ (mapped rs) (count-cycles rs n (suc d)) ∙ omega (arith, suc-mul n (length rs))
-  where
-    mapped : (rs : List Row) → length (map (inCycle d) rs) ≡ length rs
-    mapped [] = refl
-    mapped (r ∷ rs) = ap suc (mapped rs)
+    length-append (map (inCycle d) rs) (inCycles (suc d) n rs) ∙ ap₂ _+_ (length-map rs (inCycle d)) (count-cycles rs n (suc d)) ∙ omega (arith, suc-mul n (length rs))
 
 -- a row is of one relation or the other
 count-relations : (rs : List Row) → length (ofRelation Bin rs) + length (ofRelation Fld rs) ≡ length rs
@@ -194,38 +179,21 @@ module _ (P : Constraint → Type 0) where
   abbrev InCycle : ℕ → List Row → Type 0
   InCycle d rs = All (λ r. P (inCycle d r)) rs
 
-  to-cycle : (d : ℕ) (rs : List Row) → InCycle d rs → All P (map (inCycle d) rs)
-  to-cycle d [] p = tt
-  to-cycle d (r ∷ rs) p = (p .0, to-cycle d rs (p .1))
-
-  from-cycle : (d : ℕ) (rs : List Row) → All P (map (inCycle d) rs) → InCycle d rs
-  from-cycle d [] p = tt
-  from-cycle d (r ∷ rs) p = (p .0, from-cycle d rs (p .1))
-
-  to-cycles : (rs : List Row) (n d : ℕ) → ((e : ℕ) → d ≤ e → e < d + n → InCycle e rs) → All P (inCycles d n rs)
-  unfolding fromEach
-  to-cycles rs zero d h = tt
-  to-cycles rs (suc n) d h =
-      all-append P (map (inCycle d) rs) (inCycles (suc d) n rs) (to-cycle d rs (h d (omega arith) (omega arith)))
-      (to-cycles rs n (suc d) (λ e l u. h e (omega arith) (omega arith)))
-
-  from-cycles : (rs : List Row) (n d : ℕ) → All P (inCycles d n rs) → (e : ℕ) → d ≤ e → e < d + n → InCycle e rs
-  unfolding fromEach
-  from-cycles rs zero d p e l u = absurd (omega arith)
-  from-cycles rs (suc n) d p e l u =
-      ⊎-elim (λ q. subst (λ k. InCycle k rs) q (from-cycle d rs (all-left P (map (inCycle d) rs) (inCycles (suc d) n rs) p)))
-      (λ g. from-cycles rs n (suc d) (all-right P (map (inCycle d) rs) (inCycles (suc d) n rs) p) e g (omega arith)) (eq-or-lt-of-le l)
+  in-cycles : (rs : List Row) (n d : ℕ) → All P (inCycles d n rs) ↔ ((e : ℕ) → d ≤ e → e < d + n → InCycle e rs)
+  in-cycles rs n d =
+      let k = all-each P d n (λ e. map (inCycle e) rs) in
+      (λ p e l u. all-map P (inCycle e) rs .0 (k .0 p e l u), λ h. k .1 (λ e l u. all-map P (inCycle e) rs .1 (h e l u)))
 
   -- every constraint: every row in every cycle
   pub every-constraint : (cpi : ℕ) (rs : List Row) → All P (constraints cpi rs) ↔ ((d : ℕ) → d < cpi → InCycle d rs)
   unfolding constraints
   every-constraint cpi rs = (
     λ p d h. of-all (λ r. P (inCycle d r)) rs
-        (from-cycles (ofRelation Bin rs) cpi 0 (all-left P (inCycles 0 cpi (ofRelation Bin rs)) (inCycles 0 cpi (ofRelation Fld rs)) p) d (omega arith) (omega arith))
-        (from-cycles (ofRelation Fld rs) cpi 0 (all-right P (inCycles 0 cpi (ofRelation Bin rs)) (inCycles 0 cpi (ofRelation Fld rs)) p) d (omega arith) (omega arith)),
+        (in-cycles (ofRelation Bin rs) cpi 0 .0 (all-left P (inCycles 0 cpi (ofRelation Bin rs)) (inCycles 0 cpi (ofRelation Fld rs)) p) d (omega arith) (omega arith))
+        (in-cycles (ofRelation Fld rs) cpi 0 .0 (all-right P (inCycles 0 cpi (ofRelation Bin rs)) (inCycles 0 cpi (ofRelation Fld rs)) p) d (omega arith) (omega arith)),
     λ h. all-append P (inCycles 0 cpi (ofRelation Bin rs)) (inCycles 0 cpi (ofRelation Fld rs))
-        (to-cycles (ofRelation Bin rs) cpi 0 (λ e l u. all-of (λ r. P (inCycle e r)) Bin rs (h e (omega arith))))
-        (to-cycles (ofRelation Fld rs) cpi 0 (λ e l u. all-of (λ r. P (inCycle e r)) Fld rs (h e (omega arith)))),
+        (in-cycles (ofRelation Bin rs) cpi 0 .1 (λ e l u. all-of (λ r. P (inCycle e r)) Bin rs (h e (omega arith))))
+        (in-cycles (ofRelation Fld rs) cpi 0 .1 (λ e l u. all-of (λ r. P (inCycle e r)) Fld rs (h e (omega arith)))),
   )
 
 -- ---- acceptance
@@ -246,3 +214,12 @@ module _ (cpi : ℕ) (listing batch : List ℕ) where
   accepted n e =
       every-constraint (λ k. met (cycleOf cpi batch) k ≡ true) cpi (rowsOf listing) .0
       (met-run (met (cycleOf cpi batch)) (constraints cpi (rowsOf listing)) 0 n e)
+
+-- ---- the check as it is called: where every question is answered with yes, it is the verdict, and zeros in the scratch
+pub answered-yes : (cpi : ℕ) (listing batch scratch : List ℕ) → allowed cpi ≡ true → validated listing ≡ Yes → length scratch ≡ 3072
+    → length batch ≡ 8192 * cpi → checked cpi listing batch scratch ≡ record { answer = Judged (judged cpi listing batch); scratch = replicate 3072 0 }
+unfolding checked asked
+answered-yes cpi listing batch scratch size valid room words =
+    ap (λ q. after q (judged cpi listing batch) scratch)
+    (sym (sym valid ∙ passed _ _ _ (eq-eqb (length scratch) 3072 room) ∙ passed _ _ _ (eq-eqb (length batch) (8192 * cpi) words) ∙ passed _ _ _ size))
+    ∙ ap (λ n. record { answer = Judged (judged cpi listing batch); scratch = replicate n 0 }) room

@@ -11,13 +11,13 @@ use lib.Pow.{pow-pos}
 use Rattle.field.specs.Sums.{digit}
 use Rattle.layout.specs.Columns.{FLAGS, FETCH, EQA, OPSYS}
 use Rattle.circuit.specs.Rows.{from}
-use Rattle.step.specs.Numbers.{digit-lt}
+use Rattle.field.specs.Sums.Laws.{digit-lt}
 use Rattle.step.specs.declared.derive.Flags.{Flags}
 use Rattle.step.specs.declared.derive.Tops.{Tops}
 use Rattle.step.specs.declared.derive.DerivedWords.{DerivedWords}
 use Rattle.step.specs.Fill.Bits.{bitAt, bit-digit}
-use Rattle.step.specs.Fill.Fields.{flags, pack}
-use Rattle.step.specs.Fill.Lanes.{hot, next, hot-lt, pair-lt}
+use Rattle.step.specs.Fill.Fields.{flags, pack, gated-lt}
+use Rattle.step.specs.Fill.Lanes.{next, hot-lt, pair-lt}
 use Rattle.step.specs.Fill.Derive.{carryWord, runWord, laneWord, compareWord, branchWord}
 use Rattle.step.specs.Fill.Words.{flagsOf, topsOf, derivedWords}
 use Rattle.witness.specs.declared.records.CycleRecord.{CycleRecord}
@@ -118,10 +118,6 @@ module _ (r : CycleRecord) (m : RomRow) where
   lane-lt : lane r m < 8
   lane-lt = omega arith
 
-  gate-lt : (b : Bool) (h : ℕ) → h < 2 ^ 8 → digit b * h < 2 ^ 8
-  gate-lt true h l = omega arith
-  gate-lt false h l = omega arith
-
   lanes-packed : laneWord (lane r m) gateFlags ≡ packed EQA (laneGroup r m)
   unfolding laneWord packed
   lanes-packed =
@@ -132,9 +128,9 @@ module _ (r : CycleRecord) (m : RomRow) where
       let at2 = mod-eq-of-lt (pair-lt x) in
       let at3 = mod-eq-of-lt after in
       let at4 = mod-eq-of-lt (pair-lt (next x)) in
-      let at5 = mod-eq-of-lt (gate-lt (r .«ld_byte») (hot x) here) in
-      let at6 = mod-eq-of-lt (gate-lt (r .«ld_half») (hot x) here) in
-      let at7 = mod-eq-of-lt (gate-lt (r .«ld_half») (hot (next x)) after) in
+      let at5 = mod-eq-of-lt (gated-lt (r .«ld_byte») _ _ here) in
+      let at6 = mod-eq-of-lt (gated-lt (r .«ld_half») _ _ here) in
+      let at7 = mod-eq-of-lt (gated-lt (r .«ld_half») _ _ after) in
       simp (digit-cut, at, at2, at3, at4, at5, at6, at7) (omega arith)
 
   abbrev topBits : Tops

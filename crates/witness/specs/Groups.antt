@@ -5,14 +5,12 @@ use mathlib.Core.Bool.{Bool, true, false, cond, _&&_}
 use mathlib.Core.List.{List, [], _∷_, _++_}
 use Prim.Native.Nat.{ℕ, zero, suc, _+_, _*_, _-_, _/_, _%_, _≤_, _<_}
 use native.Mathlib.Omega.{arith}
-use borrow.Author.Tests.{leb-true}
-use lib.Dec.{leb}
 use lib.ListN.{getD}
 use Rattle.layout.specs.Questions.{both}
-use Rattle.circuit.specs.Rows.{joined}
-use Rattle.step.specs.Fill.Bits.{bitAt}
-use Rattle.step.specs.Fill.Blocks.{Block, block, inBlock}
-use Rattle.witness.specs.Packed.{columnBit, packed, between, inside, behind, goes-on, nothing-before, no-bit, packed-bit}
+use Rattle.layout.specs.Lists.{joined}
+use Rattle.step.specs.Fill.Bits.{bitAt, no-bit}
+use Rattle.step.specs.Fill.Blocks.{Block, block, inBlock, between, goes-on, ends}
+use Rattle.witness.specs.Packed.{columnBit, packed, inside, behind, nothing-before, packed-bit}
 
 -- a word has a group's bits; and each word of a list those of its group
 abbrev pub Carries : ℕ → List Block → ℕ → Type 0
@@ -35,12 +33,6 @@ joined-within : (ks ls : List Block) (c : ℕ) → columnBit ls c ≡ false → 
 unfolding columnBit
 joined-within [] ls c e = e
 joined-within (k ∷ ks) ls c e = ap (cond (inBlock k c) (bitAt (k .word) (c - k .column))) (joined-within ks ls c e)
-
-ends : (ks : List Block) (o limit : ℕ) → between o limit ks ≡ true → o ≤ limit
-ends [] o limit t = leb-true o limit t
-ends (k ∷ ks) o limit t =
-    let p = both (leb o (k .column)) (between (k .column + k .width) limit ks) t in
-    omega (arith, leb-true o (k .column) (p .0), ends ks (k .column + k .width) limit (p .1))
 
 joined-behind : (ks ls : List Block) (o limit c : ℕ) → between o limit ks ≡ true → limit ≤ c → columnBit (ks ++ ls) c ≡ columnBit ls c
 joined-behind [] ls o limit c t l = refl

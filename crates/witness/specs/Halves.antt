@@ -10,8 +10,9 @@ use Rattle.field.specs.Gf as gf
 use Rattle.field.specs.Gf.{ofWords}
 use Rattle.field.specs.Gf.Laws.{words-zero, words-one}
 use Rattle.circuit.specs.Rows.{from}
+use Rattle.circuit.specs.Families.{getD-from}
 use Rattle.verdict.specs.Row.{elementAt}
-use Rattle.witness.specs.Written.{getD-from, Written, written-none, written-more, written-to, written-same, written-then, written-all}
+use Rattle.witness.specs.Written.{Written, written-none, written-more, written-to, written-same, written-then, written-all}
 use Rattle.witness.specs.Upper.{upperWord, upperFrom, batchWord, public-word, in-lower, in-upper}
 
 -- the upper half written in three pieces: the one column, the public words, zeros
@@ -52,7 +53,7 @@ module _ (n one : ℕ) (half : n ≡ 4 * one) (lower : ℕ → ℕ) (public : Li
   whole = from 0 n (batchWord one lower public)
 
   word-at : (k : ℕ) → k < n → getD whole k 0 ≡ batchWord one lower public k
-  word-at k h = getD-from (batchWord one lower public) n 0 k h ∙ ap (batchWord one lower public) (zero-add k)
+  word-at k h = getD-from (batchWord one lower public) 0 n 0 k h ∙ ap (batchWord one lower public) (zero-add k)
 
   pub lower-at : (k : ℕ) → k < 2 * one → getD whole k 0 ≡ lower k
   lower-at k h = word-at k (omega arith) ∙ in-lower one lower public k h

@@ -14,16 +14,15 @@ use Rattle.field.specs.Gf as gf
 use Rattle.field.specs.Gf.{ofWords, isBit}
 use Rattle.field.specs.Gf.Tests.{isBit-bit}
 use Rattle.field.specs.Sums.{digit}
+use Rattle.field.specs.Gf.Bits.{bitOf, bit-words}
 use Rattle.layout.specs.Batch.{allowed}
 use Rattle.layout.specs.Questions.{passed, refused}
+use Rattle.circuit.specs.Families.{length-from}
 use Rattle.verdict.specs.declared.bits.BitAnswer.the-variants.{AllBits}
 use Rattle.verdict.specs.Row.{elementAt}
-use Rattle.verdict.specs.OverBits.{bitOf}
 use Rattle.verdict.specs.Bits.{firstFrom, aboveOne, bitTested, first-none}
-use Rattle.step.specs.Placed.{bit-words}
 use Rattle.witness.specs.declared.records.CycleRecord.{CycleRecord}
 use Rattle.witness.specs.declared.records.RomRow.{RomRow}
-use Rattle.witness.specs.Written.{length-from}
 use Rattle.witness.specs.Halves.{lower-at, one-at, value-at, rest-at}
 use Rattle.witness.specs.Row.{rowBit, bitWord, rowWord, madeRow}
 

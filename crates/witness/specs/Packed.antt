@@ -1,19 +1,16 @@
 -- Fields of columns, and the words of 64 columns that hold their bits.
 -- Assumes nothing.
 use mathlib.Core.Path.{_≡_, refl, sym, ap, _∙_}
-use mathlib.Core.Bool.{Bool, true, false, cond, _&&_}
+use mathlib.Core.Bool.{Bool, true, false, cond}
 use mathlib.Core.List.{List, [], _∷_}
 use Prim.Native.Nat.{ℕ, _+_, _*_, _-_, _%_, _^_, _≤_, _<_}
-use native.Mathlib.Nat.{zero-div, mod-lt, zero-add}
+use native.Mathlib.Nat.{mod-lt}
 use native.Mathlib.Decide.{decLt}
 use native.Mathlib.Omega.{arith}
-use borrow.Author.Tests.{leb-true, le-leb, lt-ltb, le-ltb, lt-leb}
-use lib.Dec.{leb}
+use borrow.Author.Tests.{le-leb, lt-ltb, le-ltb, lt-leb}
 use lib.Pow.{pow-pos}
-use Rattle.layout.specs.Questions.{both}
-use Rattle.step.specs.Numbers.{isSet}
-use Rattle.step.specs.Fill.Bits.{bitAt, bit-cut, bit-low, bit-high}
-use Rattle.step.specs.Fill.Blocks.{Block, inBlock}
+use Rattle.step.specs.Fill.Bits.{bitAt, bit-cut, bit-low, bit-high, no-bit, bit-moved, bit-below}
+use Rattle.step.specs.Fill.Blocks.{Block, inBlock, between, starts, goes-on}
 
 -- a column's bit: that of the first field that has it, else 0
 unfoldable pub columnBit : List Block → ℕ → Bool
@@ -24,11 +21,6 @@ columnBit (k ∷ ks) c = cond (inBlock k c) (bitAt (k .word) (c - k .column)) (c
 unfoldable pub packed : ℕ → List Block → ℕ
 packed o [] = 0
 packed o (k ∷ ks) = 2 ^ (k .column - o) * (k .word % 2 ^ k .width + 2 ^ k .width * packed (k .column + k .width) ks)
-
--- in ascending order, from a column on and below a limit
-abbrev pub between : ℕ → ℕ → List Block → Bool
-between o limit [] = leb o limit
-between o limit (k ∷ ks) = leb o (k .column) && between (k .column + k .width) limit ks
 
 -- ---- the bits of the number are the columns' bits
 
@@ -45,13 +37,6 @@ module _ (k : Block) (ks : List Block) (c : ℕ) where
   unfolding columnBit
   behind l = rw (le-leb (k .column) c (omega arith), le-ltb c (k .column + k .width) l)
 
-module _ (o limit : ℕ) (k : Block) (ks : List Block) (t : between o limit (k ∷ ks) ≡ true) where
-  starts : o ≤ k .column
-  starts = leb-true o (k .column) (both (leb o (k .column)) (between (k .column + k .width) limit ks) t .0)
-
-  pub goes-on : between (k .column + k .width) limit ks ≡ true
-  goes-on = both (leb o (k .column)) (between (k .column + k .width) limit ks) t .1
-
 -- no field begins before the first
 pub nothing-before : (ks : List Block) (o limit c : ℕ) → between o limit ks ≡ true → c < o → columnBit ks c ≡ false
 unfolding columnBit
@@ -59,16 +44,6 @@ nothing-before [] o limit c t l = refl
 nothing-before (k ∷ ks) o limit c t l =
     let s = starts o limit k ks t in
     before k ks c (omega arith) ∙ nothing-before ks (k .column + k .width) limit c (goes-on o limit k ks t) (omega arith)
-
-pub no-bit : (i : ℕ) → bitAt 0 i ≡ false
-no-bit i = ap (λ (q : ℕ). isSet (q % 2)) (zero-div (2 ^ i))
-
--- moved up by g
-moved : (g x i : ℕ) → bitAt (2 ^ g * x) (g + i) ≡ bitAt x i
-moved g x i = ap (λ (n : ℕ). bitAt n (g + i)) (sym (zero-add (2 ^ g * x))) ∙ bit-high g 0 x (pow-pos g) i
-
-moved-below : (g x i : ℕ) → i < g → bitAt (2 ^ g * x) i ≡ false
-moved-below g x i l = ap (λ (n : ℕ). bitAt n i) (sym (zero-add (2 ^ g * x))) ∙ bit-low g 0 x (pow-pos g) i l ∙ no-bit i
 
 -- one field more, where the rest is known
 module _ (o limit : ℕ) (k : Block) (ks : List Block) (t : between o limit (k ∷ ks) ≡ true)
@@ -99,14 +74,14 @@ module _ (o limit : ℕ) (k : Block) (ks : List Block) (t : between o limit (k �
 
   one-more : (i : ℕ) → Dec (i < gap) → bitAt (2 ^ gap * both-parts) i ≡ columnBit (k ∷ ks) (o + i)
   one-more i (yes m) =
-      moved-below gap both-parts i m
+      bit-below gap both-parts i m
       ∙ sym
       (before k ks (o + i) (omega arith)
       ∙ nothing-before ks (k .column + k .width) limit (o + i) (goes-on o limit k ks t) (omega (arith, starts o limit k ks t)))
   one-more i (no f) =
       let s = starts o limit k ks t in
       let j = i - gap in
-      ap (bitAt (2 ^ gap * both-parts)) (omega arith) ∙ moved gap both-parts j ∙ field-bit j (decLt j (k .width)) ∙ ap (columnBit (k ∷ ks)) (omega arith)
+      ap (bitAt (2 ^ gap * both-parts)) (omega arith) ∙ bit-moved gap both-parts j ∙ field-bit j (decLt j (k .width)) ∙ ap (columnBit (k ∷ ks)) (omega arith)
 
 pub packed-bit : (ks : List Block) (o limit : ℕ) → between o limit ks ≡ true → (i : ℕ) → bitAt (packed o ks) i ≡ columnBit ks (o + i)
 unfolding packed columnBit

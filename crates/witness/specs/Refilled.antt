@@ -13,25 +13,26 @@ use lib.Pow.{pow-pos}
 use Rattle.field.specs.declared.Gf128.{Gf128}
 use Rattle.field.specs.Gf.{low}
 use Rattle.field.specs.Sums.{digit}
+use Rattle.field.specs.Sums.Laws.{val-same}
+use Rattle.field.specs.Gf.Bits.{bitOf, low-bit}
 use Rattle.layout.specs.Columns.{HALT, TAKEN}
 use Rattle.layout.specs.declared.Asked.{Asked}
 use Rattle.layout.specs.declared.Asked.the-variants.{Yes}
 use Rattle.layout.specs.Batch.{allowed}
 use Rattle.layout.specs.Mapping.{witness-column}
+use Rattle.layout.specs.Lists.{All}
 use Rattle.verdict.specs.Row.{elementAt, cycleOf}
-use Rattle.verdict.specs.OverBits.{bitOf}
 use Rattle.verdict.specs.Bits.{first-none}
 use Rattle.step.specs.Words.{bitsOf}
-use Rattle.step.specs.Numbers.{val-same, val-bits}
+use Rattle.step.specs.Numbers.{val-bits}
 use Rattle.step.specs.Derived.{derivedIn}
-use Rattle.step.specs.Batch.{low-bit}
 use Rattle.step.specs.Filling.{filled}
 use Rattle.step.specs.declared.derive.GivenWords.{GivenWords}
 use Rattle.step.specs.declared.derive.DerivedWords.{DerivedWords}
 use Rattle.step.specs.Fill.{faulty, after, called}
 use Rattle.step.specs.Fill.Answers.{Passed, passed-all}
 use Rattle.step.specs.Fill.Bits.{bitAt}
-use Rattle.step.specs.Fill.Blocks.{block, EachBlock, Written, putBlocks, written, blocks-again}
+use Rattle.step.specs.Fill.Blocks.{block, Written, putBlocks, written, blocks-again}
 use Rattle.step.specs.Fill.Cycle.{blocks-ordered}
 use Rattle.step.specs.Fill.Cycles.{all-cycles}
 use Rattle.step.specs.Fill.Words as filler
@@ -119,7 +120,7 @@ module _ (r : CycleRecord) (m : RomRow) (public : List ℕ) (fit : Words r) wher
   first = omega arith
 
   module _ (halts : elementAt (filled 1 row) HALT ≡ bitOf (r .«halted_latch»)) (takes : elementAt (filled 1 row) TAKEN ≡ bitOf (r .«branch_taken»)) where
-    abbrev parts : EachBlock (Written 1 0 first (putBlocks 1 0 (blocks given derivedOf) row)) (blocks given derivedOf)
+    abbrev parts : All (Written 1 0 first (putBlocks 1 0 (blocks given derivedOf) row)) (blocks given derivedOf)
     parts = written 1 0 first (blocks given derivedOf) 0 row (row-length r m public) (blocks-ordered given derivedOf)
 
     -- a run of columns that is word j, or begins it
@@ -135,7 +136,7 @@ module _ (r : CycleRecord) (m : RomRow) (public : List ℕ) (fit : Words r) wher
         ap (elementAt row) (here ∙ e) ∙ at-word 12 bit (omega arith) l ∙ ap (λ (x : Bool). bitOf x) q ∙ sym h
         ∙ ap (λ (u : List ℕ). elementAt u column) by-blocks ∙ ap (elementAt (putBlocks 1 0 (blocks given derivedOf) row)) (sym here) ∙ p i k
 
-    stand-already : EachBlock (Written 1 0 first row) (blocks given derivedOf)
+    stand-already : All (Written 1 0 first row) (blocks given derivedOf)
     stand-already = (
       λ i h. stands 448 7 64 (omega arith) (omega arith) i h refl,
       (

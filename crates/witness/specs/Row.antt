@@ -11,7 +11,8 @@ use Rattle.field.specs.Sums.{digit}
 use Rattle.layout.specs.declared.Asked.{Asked}
 use Rattle.layout.specs.declared.Asked.the-variants.{Yes, No}
 use Rattle.layout.specs.Questions.{no, answered}
-use Rattle.circuit.specs.Rows.{joined, from}
+use Rattle.layout.specs.Lists.{joined}
+use Rattle.circuit.specs.Rows.{from}
 use Rattle.step.specs.Fill.{Called, after}
 use Rattle.witness.specs.declared.records.CycleRecord.{CycleRecord}
 use Rattle.witness.specs.declared.records.RomRow.{RomRow}

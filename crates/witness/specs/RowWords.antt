@@ -13,7 +13,8 @@ use Rattle.field.specs.Sums.{digit}
 use Rattle.layout.specs.Questions.{passed, refused}
 use Rattle.step.specs.declared.derive.GivenWords.{GivenWords}
 use Rattle.step.specs.declared.derive.DerivedWords.{DerivedWords}
-use Rattle.step.specs.Fill.Bits.{bitAt, digit-of}
+use Rattle.step.specs.Numbers.{digit-of}
+use Rattle.step.specs.Fill.Bits.{bitAt}
 use Rattle.step.specs.Fill.Fields.{flags, pack}
 use Rattle.step.specs.Fill.Words.{derivedWords}
 use Rattle.witness.specs.declared.records.CycleRecord.{CycleRecord}

@@ -12,6 +12,7 @@ use Rattle.step.specs.Fill.Bits.{bitAt}
 use Rattle.step.specs.Fill.Blocks.{Block, block}
 use Rattle.step.specs.Fill.Lanes.{hot, pair, next}
 use Rattle.step.specs.Fill.Derive.{carryWord, runWord, opcodeRun}
+use Rattle.step.specs.Compare.{signedLess}
 use Rattle.witness.specs.declared.records.CycleRecord.{CycleRecord}
 use Rattle.witness.specs.declared.records.RomRow.{RomRow}
 
@@ -54,7 +55,7 @@ module _ (r : CycleRecord) (m : RomRow) where
   differ = top (r .«rs1_val») ⊻ top (r .«rs2_val»)
 
   abbrev lessSigned : Bool
-  lessSigned = (differ && top (r .«rs1_val»)) ⊻ ((differ ⊻ true) && top (aluOf r))
+  lessSigned = signedLess (top (r .«rs1_val»)) (top (r .«rs2_val»)) (top (aluOf r))
 
   abbrev bothTops : Bool
   bothTops = top (r .«alu_a») && top (secondOperand r)

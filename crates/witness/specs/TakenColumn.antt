@@ -4,20 +4,19 @@ use mathlib.Core.Path.{_≡_, refl, sym, ap, _∙_}
 use mathlib.Core.Logic.{_↔_}
 use mathlib.Core.Bool.{Bool, true, false, cond}
 use mathlib.Core.List.{List}
-use Prim.Native.Nat.{ℕ, _+_, _%_, _<_}
+use Prim.Native.Nat.{ℕ, _%_, _<_}
 use native.Mathlib.Nat.{mod-eq-of-lt}
 use native.Mathlib.Omega.{arith}
 use borrow.Author.Tests.{eqb-true, eq-eqb}
 use lib.Dec.{eqb}
 use lib.ListN.{length}
 use Rattle.field.specs.Gf.{one}
-use Rattle.field.specs.Gf.Packed.{val-lt}
-use Rattle.layout.specs.Columns.{RS1, RS2, TAKEN, FETCH-FUNCT3}
+use Rattle.layout.specs.Columns.{RS1, RS2, TAKEN}
 use Rattle.layout.specs.Batch.{allowed}
 use Rattle.layout.specs.Questions.{passed}
 use Rattle.circuit.specs.Circuit.{circuitWords}
 use Rattle.step.specs.Words.{word}
-use Rattle.step.specs.Step.{Step, opcode, funct3}
+use Rattle.step.specs.Step.{Step, opcode, funct3, funct3-lt}
 use Rattle.step.specs.Branch.{branchHolds}
 use Rattle.step.specs.Demand3.{Premises, Compares, TakesBranch, FillerAccepted, filledCycle, filledCycleBits}
 use Rattle.step.specs.Proved.{demand3}
@@ -39,7 +38,7 @@ reads-taken b = (
 )
   where
     low : funct3 b % 8 ≡ funct3 b
-    low = mod-eq-of-lt (val-lt 3 (λ i. b (FETCH-FUNCT3 + i)))
+    low = mod-eq-of-lt (funct3-lt b)
 
     only-taken : (p q : Bool) → cond p (cond q Taken NotTaken) NoBranch ≡ Taken → (p ≡ true) × (q ≡ true)
     only-taken true true e = (refl, refl)

@@ -2,26 +2,14 @@
 -- Assumes nothing.
 use mathlib.Core.Path.{_≡_, refl, sym, ap, subst, _∙_}
 use mathlib.Core.List.{List}
-use Prim.Native.Nat.{ℕ, zero, suc, _+_, _≤_, _<_}
+use Prim.Native.Nat.{ℕ, _+_, _≤_, _<_}
 use native.Mathlib.Decide.{decLt}
-use native.Mathlib.Nat.{add-zero, zero-add, not-suc-le-zero, le-of-suc-le-suc}
+use native.Mathlib.Nat.{zero-add}
 use native.Mathlib.Omega.{arith}
 use lib.ListN.{length, getD, set, length-set}
 use lib.Seq.{getD-set-same, getD-set-other, ext-getD}
 use Rattle.circuit.specs.Rows.{from}
-
--- ---- a list given by its entries
-
-pub length-from : (f : ℕ → ℕ) (n i : ℕ) → length (from i n f) ≡ n
-unfolding from
-length-from f zero i = refl
-length-from f (suc n) i = ap suc (length-from f n (suc i))
-
-pub getD-from : (f : ℕ → ℕ) (n i k : ℕ) → k < n → getD (from i n f) k 0 ≡ f (i + k)
-unfolding from
-getD-from f zero i k h = absurd (not-suc-le-zero h)
-getD-from f (suc n) i zero h = rw add-zero
-getD-from f (suc n) i (suc k) h = getD-from f n (suc i) k (le-of-suc-le-suc h) ∙ ap f (omega arith)
+use Rattle.circuit.specs.Families.{length-from, getD-from}
 
 -- ---- written from index `first` on and before k: there it is f, elsewhere as before
 
@@ -77,4 +65,4 @@ written-same f g first k before after e w =
 pub written-all : (f : ℕ → ℕ) (k n : ℕ) (before after : List ℕ) → length before ≡ n → n ≤ k → Written f 0 k before after → after ≡ from 0 n f
 written-all f k n before after e h w =
     ext-getD 0 after (from 0 n f) (w .lengths ∙ e ∙ sym (length-from f n 0))
-    (λ i l. w .here i (omega arith) (omega (arith, w .lengths)) ∙ ap f (sym (zero-add i)) ∙ sym (getD-from f n 0 i (omega (arith, w .lengths))))
+    (λ i l. w .here i (omega arith) (omega (arith, w .lengths)) ∙ ap f (sym (zero-add i)) ∙ sym (getD-from f 0 n 0 i (omega (arith, w .lengths))))

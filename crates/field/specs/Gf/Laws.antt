@@ -1,6 +1,7 @@
 -- The laws of elements. Those of the sum hold of any two words; the product's ask that an element is proper where they need
 -- it, which is so of every element that a program holds.
 use mathlib.Core.Path.{_≡_, refl, sym, ap, ap₂, subst, _∙_}
+use mathlib.Core.Logic.{_↔_}
 use Prim.Native.Nat.{ℕ, suc, _*_, _^_, _≤_, _<_}
 use native.Mathlib.Nat.{pow-suc}
 use native.Mathlib.Omega.{arith}
@@ -91,6 +92,13 @@ add-zero x = add-comm x zero ∙ zero-add x
 pub add-self : (x : Gf128) → added x x ≡ zero
 unfolding added zero
 add-self x = ap₂ ofWords (⊕-self (low x)) (⊕-self (high x))
+
+-- x + y is zero exactly when y is x
+pub added-zero : (x y : Gf128) → (added x y ≡ zero) ↔ (y ≡ x)
+added-zero x y = (
+  λ h. sym (zero-add y) ∙ ap (λ (w : Gf128). added w y) (sym (add-self x)) ∙ add-assoc x x y ∙ ap (added x) h ∙ add-zero x,
+  λ h. ap (added x) h ∙ add-self x,
+)
 
 -- ---- the product
 

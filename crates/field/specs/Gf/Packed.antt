@@ -1,30 +1,23 @@
 -- A word in a sum: powers of t times bits add up to the number with those bits, so each bit can be read off.
 use mathlib.Core.Path.{_≡_, sym, ap, ap₂, _∙_}
-use mathlib.Core.Bool.{Bool, true, false, cond}
+use mathlib.Core.Bool.{Bool, true, false}
+use mathlib.Core.Logic.{_↔_}
 use Prim.Native.Nat.{ℕ, zero, suc, _+_, _*_, _/_, _^_, _≤_, _<_}
 use native.Mathlib.Nat.{add-zero, zero-add, mul-comm, mul-assoc, zero-mul, one-mul, pow-suc, not-suc-le-zero, le-of-suc-le-suc, lt-of-lt-of-le}
 use native.Mathlib.Omega.{arith}
 use lib.Pow.{pow-mono}
-use lib.Dec.{lit<}
 use Rattle.field.specs.Sums.{sum, digit, val}
+use Rattle.field.specs.Sums.Laws.{digit-lt, val-lt, val-same, same-bits, no-bits}
 use Rattle.field.specs.declared.Gf128.{Gf128}
 use Rattle.field.specs.Gf as gf
 use Rattle.field.specs.Gf.{bit, _⊕_, ofWords, value, element, one, added, product, power}
 use Rattle.field.specs.Gf.Coefficient.{bit-above, bit-first, bit-half}
 use Rattle.field.specs.Gf.Sum.{⊕-comm, ⊕-shl, ⊕-disjoint}
 use Rattle.field.specs.Gf.Element.{value-element-lt, element-word, element-zero, element-⊕, power-is}
-use Rattle.field.specs.Gf.Laws.{proper-power, mul-one, mul-zero}
+use Rattle.field.specs.Gf.Laws.{proper-power, mul-one, mul-zero, words-zero, words-injective}
+use Rattle.field.specs.Gf.Bits.{bitOf}
 
 -- ---- the number
-
-digit-lt : (b : Bool) → digit b < 2
-digit-lt true = lit< tt
-digit-lt false = lit< tt
-
-pub val-lt : (n : ℕ) (f : ℕ → Bool) → val f n < 2 ^ n
-unfolding val
-val-lt zero f = lit< tt
-val-lt (suc n) f = let d = digit-lt (f 0) in let h = val-lt n (λ i. f (suc i)) in rw pow-suc (omega arith)
 
 pub bit-val : (n i : ℕ) (f : ℕ → Bool) → i < n → bit (val f n) i ≡ digit (f i)
 unfolding val
@@ -40,7 +33,7 @@ bit-val-above n i f h = bit-above _ i (lt-of-lt-of-le (val-lt n f) (pow-mono h))
 
 -- ---- the sum
 
-term : (k : ℕ) (b : Bool) → product (power k) (cond b one gf.zero) ≡ element (digit b * 2 ^ k)
+term : (k : ℕ) (b : Bool) → product (power k) (bitOf b) ≡ element (digit b * 2 ^ k)
 term k true = mul-one (power k) (proper-power k) ∙ power-is k ∙ ap element (sym (one-mul (2 ^ k)))
 term k false = mul-zero (power k) ∙ sym element-zero ∙ ap element (sym (zero-mul (2 ^ k)))
 
@@ -52,23 +45,23 @@ digit-below d v k h =
     ∙ ap (λ (a : ℕ). a * 2 ^ k) (⊕-comm d (v * 2) ∙ ⊕-disjoint v 1 h ∙ omega arith)
 
 -- from t^k on
-packed-from : (n k : ℕ) (f : ℕ → Bool) (g : ℕ → Gf128) → ((i : ℕ) → g i ≡ product (power (k + i)) (cond (f i) one gf.zero))
+packed-from : (n k : ℕ) (f : ℕ → Bool) (g : ℕ → Gf128) → ((i : ℕ) → g i ≡ product (power (k + i)) (bitOf (f i)))
     → sum gf.zero added n g ≡ element (val f n * 2 ^ k)
 unfolding sum val
 packed-from zero k f g e = sym element-zero ∙ ap element (sym (zero-mul (2 ^ k)))
 packed-from (suc n) k f g e =
-    ap₂ added (e 0 ∙ ap (λ (j : ℕ). product (power j) (cond (f 0) one gf.zero)) (add-zero k) ∙ term k (f 0))
+    ap₂ added (e 0 ∙ ap (λ (j : ℕ). product (power j) (bitOf (f 0))) (add-zero k) ∙ term k (f 0))
     (packed-from n (suc k) (λ i. f (suc i)) (λ i. g (suc i))
-    (λ i. e (suc i) ∙ ap (λ (j : ℕ). product (power j) (cond (f (suc i)) one gf.zero)) (omega arith)))
+    (λ i. e (suc i) ∙ ap (λ (j : ℕ). product (power j) (bitOf (f (suc i)))) (omega arith)))
     ∙ sym (element-⊕ _ _) ∙ ap element (digit-below (digit (f 0)) _ k (digit-lt (f 0)))
 
 module _ (n : ℕ) (f : ℕ → Bool) where
   -- the sum over i below n of t^i times bit i
   abbrev pub packed : Gf128
-  packed = sum gf.zero added n (λ i. product (power i) (cond (f i) one gf.zero))
+  packed = sum gf.zero added n (λ i. product (power i) (bitOf (f i)))
 
   pub packed-is : packed ≡ element (val f n)
-  packed-is = packed-from n 0 f _ (λ i. ap (λ (j : ℕ). product (power j) (cond (f i) one gf.zero)) (sym (zero-add i))) ∙ ap element (omega arith)
+  packed-is = packed-from n 0 f _ (λ i. ap (λ (j : ℕ). product (power j) (bitOf (f i))) (sym (zero-add i))) ∙ ap element (omega arith)
 
   -- within one word
   pub packs : n ≤ 64 → packed ≡ ofWords (val f n) 0
@@ -82,3 +75,10 @@ module _ (n : ℕ) (f : ℕ → Bool) where
 
   pub packed-bit-above : (i : ℕ) → n ≤ 128 → n ≤ i → bit (value packed) i ≡ 0
   packed-bit-above i h l = ap (λ (a : ℕ). bit a i) (packed-value h) ∙ bit-val-above n i f l
+
+-- a word as an element is zero exactly when each of its bits is
+pub zero-word : (n : ℕ) (f : ℕ → Bool) → (ofWords (val f n) 0 ≡ gf.zero) ↔ ((i : ℕ) → i < n → f i ≡ false)
+zero-word n f = (
+  λ h. same-bits f (λ i. false) n (words-injective (val f n) 0 0 0 (h ∙ sym words-zero) .0 ∙ sym (no-bits n)),
+  λ h. ap (λ (v : ℕ). ofWords v 0) (val-same f (λ i. false) n h ∙ no-bits n) ∙ words-zero,
+)

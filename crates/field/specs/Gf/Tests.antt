@@ -1,14 +1,15 @@
--- What the two tests on elements say, and the product with a bit.
+-- What the two tests on elements say.
 use mathlib.Core.Path.{_≡_, refl, sym, ap, ap₂, _∙_}
-use mathlib.Core.Bool.{Bool, true, false, cond, _&&_, _||_, false≢true, or-true}
+use mathlib.Core.Bool.{Bool, true, false, _&&_, _||_, false≢true, or-true}
 use Prim.Native.Nat.{ℕ}
 use borrow.Author.Tests.{eqb-true, eq-eqb}
 use lib.Dec.{eqb}
 use Rattle.field.specs.declared.Gf128.{Gf128}
-use Rattle.field.specs.Gf.{bit, ofWords, low, high, value, Proper, zero, one, same, isBit, product}
+use Rattle.field.specs.Gf.{bit, ofWords, low, high, value, zero, one, same, isBit}
 use Rattle.field.specs.Gf.Coefficient.{bit-first}
 use Rattle.field.specs.Gf.Element.{value-zero, value-one}
-use Rattle.field.specs.Gf.Laws.{words, zero-mul, mul-zero, one-mul, mul-one}
+use Rattle.field.specs.Gf.Laws.{words}
+use Rattle.field.specs.Gf.Bits.{bitOf}
 
 both : (a b : Bool) → (a && b) ≡ true → (a ≡ true) × (b ≡ true)
 both true b e = (refl, e)
@@ -29,7 +30,7 @@ pub same-false : (x y : Gf128) → same x y ≡ false → x ≡ y → ⊥
 same-false x y f e = false≢true (sym f ∙ ap (same x) (sym e) ∙ same-self x)
 
 -- `isBit` holds of 0 and 1, and of nothing else
-pub isBit-bit : (b : Bool) → isBit (cond b one zero) ≡ true
+pub isBit-bit : (b : Bool) → isBit (bitOf b) ≡ true
 unfolding isBit
 isBit-bit true = ap (_||_ (same one zero)) (same-self one) ∙ or-true (same one zero)
 isBit-bit false = ap (λ (b : Bool). b || same zero one) (same-self zero)
@@ -44,22 +45,13 @@ odd-zero = ap (λ (n : ℕ). eqb (bit n 0) 1) value-zero ∙ ap (λ (n : ℕ). e
 odd-one : odd one ≡ true
 odd-one = ap (λ (n : ℕ). eqb (bit n 0) 1) value-one ∙ ap (λ (n : ℕ). eqb n 1) (bit-first 1)
 
-pub isBit-true : (x : Gf128) → isBit x ≡ true → x ≡ cond (odd x) one zero
+pub isBit-true : (x : Gf128) → isBit x ≡ true → x ≡ bitOf (odd x)
 unfolding isBit
 isBit-true x e = go (same x zero) refl e
   where
-    from : {y : Gf128} {b : Bool} → x ≡ y → odd y ≡ b → y ≡ cond b one zero → x ≡ cond (odd x) one zero
-    from {y} q o h = q ∙ h ∙ ap (λ (b : Bool). cond b one zero) (sym (ap (λ (z : Gf128). odd z) q ∙ o))
+    from : {y : Gf128} {b : Bool} → x ≡ y → odd y ≡ b → y ≡ bitOf b → x ≡ bitOf (odd x)
+    from {y} q o h = q ∙ h ∙ ap (λ (b : Bool). bitOf b) (sym (ap (λ (z : Gf128). odd z) q ∙ o))
 
-    go : (b : Bool) → same x zero ≡ b → (b || same x one) ≡ true → x ≡ cond (odd x) one zero
+    go : (b : Bool) → same x zero ≡ b → (b || same x one) ≡ true → x ≡ bitOf (odd x)
     go true z t = from (same-true x zero z) odd-zero refl
     go false z t = from (same-true x one t) odd-one refl
-
--- times a bit: all or nothing
-pub bit-mul : (b : Bool) (x : Gf128) → Proper x → product (cond b one zero) x ≡ cond b x zero
-bit-mul true x p = one-mul x p
-bit-mul false x p = zero-mul x
-
-pub mul-bit : (x : Gf128) (b : Bool) → Proper x → product x (cond b one zero) ≡ cond b x zero
-mul-bit x true p = mul-one x p
-mul-bit x false p = mul-zero x

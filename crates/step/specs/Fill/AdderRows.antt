@@ -4,17 +4,17 @@ use mathlib.Core.Path.{_≡_, refl, sym, ap, ap₂, _∙_}
 use mathlib.Core.Bool.{Bool, true, false, not, _&&_, and-true}
 use Prim.Native.Nat.{ℕ, suc, _+_, _<_}
 use native.Mathlib.Omega.{arith}
-use Rattle.field.specs.Gf.Packed.{val-lt}
+use Rattle.field.specs.Sums.Laws.{val-lt}
 use Rattle.layout.specs.Columns.{ONE-COL, T1, T2, CARRY-OFF, ALU, SUB, ZERO}
+use Rattle.layout.specs.Lists.{All}
 use Rattle.circuit.specs.Circuit.{is, firstCarryRow, adderRow, copyRows, zeroRows}
 use Rattle.verdict.specs.OverBits.{sumBits}
-use Rattle.verdict.specs.Verdicts.{All}
 use Rattle.step.specs.Words.{_⊻_, word}
 use Rattle.step.specs.Cases.{of-three, xor-false}
 use Rattle.step.specs.Adder.{majority}
 use Rattle.step.specs.Solve.{lacks, Holds}
 use Rattle.step.specs.Sides.{sum-one, sum-is}
-use Rattle.step.specs.Fill.Bits.{bitAt, bit-val, carryInto, carry-bit}
+use Rattle.step.specs.Fill.Bits.{carryInto, carry-bit, word-bit}
 use Rattle.step.specs.Fill.Derive.{carryWord, ByWords}
 use Rattle.step.specs.Fill.Holds.{alike-not, product-holds, copy-holds, chain-holds}
 
@@ -27,9 +27,6 @@ module _ (y : ℕ → Bool) (y1 : y ONE-COL ≡ true) (d : ByWords y) where
 
   abbrev t2 : ℕ
   t2 = word y T2 64
-
-  word-bit : (o n i : ℕ) → i < n → bitAt (word y o n) i ≡ y (o + i)
-  word-bit o n i l = bit-val (λ j. y (o + j)) n i l
 
   carry-is : (i : ℕ) → i < 64 → y (CARRY-OFF + i) ≡ carryInto t1 t2 (y SUB) i
   unfolding carryWord
@@ -45,7 +42,7 @@ module _ (y : ℕ → Bool) (y1 : y ONE-COL ≡ true) (d : ByWords y) where
   adder-holds i l =
       ap (λ (n : Bool). ((y (T1 + i) ⊻ (y (CARRY-OFF + i) ⊻ false)) && (y (T2 + i) ⊻ (y (CARRY-OFF + i) ⊻ false))) ⊻ (n ⊻ (y (CARRY-OFF + i) ⊻ false)))
       (carry-is (suc i) (omega arith)
-      ∙ ap₂ (λ (a b : Bool). majority a b (carryInto t1 t2 (y SUB) i)) (word-bit T1 64 i (omega arith)) (word-bit T2 64 i (omega arith))
+      ∙ ap₂ (λ (a b : Bool). majority a b (carryInto t1 t2 (y SUB) i)) (word-bit y T1 64 i (omega arith)) (word-bit y T2 64 i (omega arith))
       ∙ ap (majority (y (T1 + i)) (y (T2 + i))) (sym (carry-is i (omega arith))))
       ∙ adder-zero (y (T1 + i)) (y (T2 + i)) (y (CARRY-OFF + i))
 
@@ -55,5 +52,5 @@ module _ (y : ℕ → Bool) (y1 : y ONE-COL ≡ true) (d : ByWords y) where
   pub zeros-hold : All (Holds y) zeroRows
   zeros-hold =
       chain-holds y y1 ZERO 63 (word y ALU 64) (λ i. is (ALU + i) 0) (val-lt 64 _) (omega arith)
-      (λ i l. sum-is y y1 (ALU + i) 0 ∙ alike-not (y (ALU + i)) false ∙ ap not (xor-false (y (ALU + i)) ∙ sym (word-bit ALU 64 i (omega arith))))
+      (λ i l. sum-is y y1 (ALU + i) 0 ∙ alike-not (y (ALU + i)) false ∙ ap not (xor-false (y (ALU + i)) ∙ sym (word-bit y ALU 64 i (omega arith))))
       (λ i l. d .zeros i (omega arith))

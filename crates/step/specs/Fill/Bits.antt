@@ -9,12 +9,12 @@ use lib.Bits.{bitXor, bitAnd, xor-shr, xor-mod, and-shr, and-mod}
 use lib.Dec.{eqb}
 use lib.Pow.{pow-pos, shr-shr, field, mod-mod-pow}
 use Rattle.field.specs.Gf.Coefficient.{zero-or-one}
-use Rattle.field.specs.Gf.Packed.{val-lt}
 use Rattle.field.specs.Sums.{digit, val}
+use Rattle.field.specs.Sums.Laws.{val-lt, val-same, same-bits, complement}
 use Rattle.circuit.specs.Circuit.{bitOf}
 use Rattle.step.specs.Words.{_⊻_, word}
 use Rattle.step.specs.Cases.{of-three}
-use Rattle.step.specs.Numbers.{isSet, val-same, same-bits, val-bits, complement}
+use Rattle.step.specs.Numbers.{isSet, val-bits}
 use Rattle.step.specs.Adder.{majority, wrapping-sum}
 
 -- bit i of a word
@@ -24,9 +24,6 @@ bitAt w i = isSet (bitOf w i)
 -- as the code tests it
 pub odd-is : (r : ℕ) → r < 2 → eqb r 1 ≡ isSet r
 odd-is = zero-or-one (λ (r : ℕ). eqb r 1 ≡ isSet r) refl refl
-
-pub digit-of : (r : ℕ) → r < 2 → r ≡ digit (isSet r)
-digit-of = zero-or-one (λ (r : ℕ). r ≡ digit (isSet r)) refl refl
 
 pub bit-digit : (b : Bool) → bitAt (digit b) 0 ≡ b
 bit-digit true = refl
@@ -45,12 +42,19 @@ bit-cut a n i l =
 pub bit-val : (f : ℕ → Bool) (n i : ℕ) → i < n → bitAt (val f n) i ≡ f i
 bit-val f n i l = same-bits (bitAt (val f n)) f n (val-bits n (val f n) (val-lt n f)) i l
 
--- part of a word of columns
+-- a bit of a word of columns, and part of one
+pub word-bit : (z : ℕ → Bool) (o n i : ℕ) → i < n → bitAt (word z o n) i ≡ z (o + i)
+word-bit z o n i l = bit-val (λ j. z (o + j)) n i l
+
 pub word-part : (z : ℕ → Bool) (o m k n : ℕ) → k + n ≤ m → word z o m / 2 ^ k % 2 ^ n ≡ word z (o + k) n
 word-part z o m k n h =
     sym (val-bits n (word z o m / 2 ^ k % 2 ^ n) (mod-lt _ (pow-pos n)))
     ∙ val-same _ _ n
-    (λ i l. bit-cut (word z o m / 2 ^ k) n i l ∙ bit-shr (word z o m) k i ∙ bit-val (λ j. z (o + j)) m (k + i) (omega arith) ∙ ap z (omega arith))
+    (λ i l. bit-cut (word z o m / 2 ^ k) n i l ∙ bit-shr (word z o m) k i ∙ word-bit z o m (k + i) (omega arith) ∙ ap z (omega arith))
+
+-- 0 has none
+pub no-bit : (i : ℕ) → bitAt 0 i ≡ false
+no-bit i = ap (λ (q : ℕ). isSet (q % 2)) (zero-div (2 ^ i))
 
 -- two words side by side
 module _ (n low high : ℕ) (h : low < 2 ^ n) where
@@ -63,6 +67,13 @@ module _ (n low high : ℕ) (h : low < 2 ^ n) where
   bit-high i =
       sym (bit-shr (low + 2 ^ n * high) n i)
       ∙ ap (λ (m : ℕ). bitAt m i) (add-mul-div-left low high (pow-pos n) ∙ ap (λ (m : ℕ). m + high) (div-eq-of-lt h) ∙ zero-add high)
+
+-- moved up by g
+pub bit-moved : (g x i : ℕ) → bitAt (2 ^ g * x) (g + i) ≡ bitAt x i
+bit-moved g x i = ap (λ (n : ℕ). bitAt n (g + i)) (sym (zero-add (2 ^ g * x))) ∙ bit-high g 0 x (pow-pos g) i
+
+pub bit-below : (g x i : ℕ) → i < g → bitAt (2 ^ g * x) i ≡ false
+bit-below g x i l = ap (λ (n : ℕ). bitAt n i) (sym (zero-add (2 ^ g * x))) ∙ bit-low g 0 x (pow-pos g) i l ∙ no-bit i
 
 -- ---- exclusive or, and, complement
 
@@ -125,7 +136,7 @@ module _ (n x : ℕ) (h : x < 2 ^ suc n) where
 
   ones-bit : (i : ℕ) → i < suc n → bitAt (2 ^ suc n - 1) i ≡ true
   ones-bit i l =
-      ap (λ (m : ℕ). bitAt m i) (omega arith) ∙ bit-not (suc n) 0 i (pow-pos (suc n)) l ∙ ap (λ (q : ℕ). not (isSet (q % 2))) (zero-div (2 ^ i))
+      ap (λ (m : ℕ). bitAt m i) (omega arith) ∙ bit-not (suc n) 0 i (pow-pos (suc n)) l ∙ ap not (no-bit i)
 
   abbrev c : ℕ → Bool
   c = carryInto x (2 ^ suc n - 1) false

@@ -13,12 +13,12 @@ use lib.Arith.{digits-lt}
 use lib.Dec.{eqb, leb, ltb}
 use lib.ListN.{length}
 use Rattle.field.specs.Gf.{low}
+use Rattle.field.specs.Gf.Bits.{bitOf, as-bit}
 use Rattle.layout.specs.Questions.{both}
+use Rattle.layout.specs.Lists.{All}
 use Rattle.verdict.specs.Row.{elementAt}
-use Rattle.verdict.specs.OverBits.{bitOf}
-use Rattle.step.specs.Filling.{put, putEach}
-use Rattle.step.specs.Placed.{each-length, each-other, each-here, by-elements}
-use Rattle.step.specs.Batch.{as-bit}
+use Rattle.step.specs.Filling.{put}
+use Rattle.step.specs.Placed.{by-elements, put-length, put-here, put-elsewhere}
 use Rattle.step.specs.Fill.Bits.{bitAt}
 
 -- the low n bits of w put into the n columns from o on, of cycle d
@@ -39,10 +39,13 @@ abbrev pub putBlocks : ℕ → ℕ → List Block → List ℕ → List ℕ
 putBlocks cpi d [] batch = batch
 putBlocks cpi d (k ∷ ks) batch = putBlocks cpi d ks (putWord cpi d (k .column) (k .word) (k .width) batch)
 
--- in ascending order, from a column on and below 2048
+-- in ascending order, from a column on and below a limit
+abbrev pub between : ℕ → ℕ → List Block → Bool
+between o limit [] = leb o limit
+between o limit (k ∷ ks) = leb o (k .column) && between (k .column + k .width) limit ks
+
 abbrev pub ordered : ℕ → List Block → Bool
-ordered o [] = leb o 2048
-ordered o (k ∷ ks) = leb o (k .column) && ordered (k .column + k .width) ks
+ordered o ks = between o 2048 ks
 
 abbrev pub inBlock : Block → ℕ → Bool
 inBlock k c = leb (k .column) c && ltb c (k .column + k .width)
@@ -50,10 +53,6 @@ inBlock k c = leb (k .column) c && ltb c (k .column + k .width)
 abbrev pub inBlocks : List Block → ℕ → Bool
 inBlocks [] c = false
 inBlocks (k ∷ ks) c = inBlock k c || inBlocks ks c
-
-abbrev pub EachBlock : (Block → Type 0) → List Block → Type 0
-EachBlock P [] = Unit {0}
-EachBlock P (k ∷ ks) = P k × EachBlock P ks
 
 -- ---- a column is in a block
 
@@ -68,37 +67,23 @@ one-of : (a b : Bool) → (a || b) ≡ true → (a ≡ true) ⊎ (b ≡ true)
 one-of true b e = inl refl
 one-of false b e = inr e
 
-module _ (o : ℕ) (k : Block) (ks : List Block) (t : ordered o (k ∷ ks) ≡ true) where
-  after-start : o ≤ k .column
-  after-start = leb-true o (k .column) (both (leb o (k .column)) (ordered (k .column + k .width) ks) t .0)
+module _ (o limit : ℕ) (k : Block) (ks : List Block) (t : between o limit (k ∷ ks) ≡ true) where
+  pub starts : o ≤ k .column
+  starts = leb-true o (k .column) (both (leb o (k .column)) (between (k .column + k .width) limit ks) t .0)
 
-  then-ordered : ordered (k .column + k .width) ks ≡ true
-  then-ordered = both (leb o (k .column)) (ordered (k .column + k .width) ks) t .1
+  pub goes-on : between (k .column + k .width) limit ks ≡ true
+  goes-on = both (leb o (k .column)) (between (k .column + k .width) limit ks) t .1
 
-ordered-below : (ks : List Block) (o : ℕ) → ordered o ks ≡ true → o ≤ 2048
-ordered-below [] o t = leb-true o 2048 t
-ordered-below (k ∷ ks) o t = omega (arith, after-start o k ks t, ordered-below ks (k .column + k .width) (then-ordered o k ks t))
+pub ends : (ks : List Block) (o limit : ℕ) → between o limit ks ≡ true → o ≤ limit
+ends [] o limit t = leb-true o limit t
+ends (k ∷ ks) o limit t = omega (arith, starts o limit k ks t, ends ks (k .column + k .width) limit (goes-on o limit k ks t))
 
 pub blocks-below : (ks : List Block) (o c : ℕ) → ordered o ks ≡ true → inBlocks ks c ≡ true → c < 2048
 blocks-below [] o c t e = absurd (false≢true e)
 blocks-below (k ∷ ks) o c t e =
-    let r = then-ordered o k ks t in
-    ⊎-elim (λ q. omega (arith, in-block k c q, ordered-below ks (k .column + k .width) r)) (blocks-below ks (k .column + k .width) c r)
+    let r = goes-on o 2048 k ks t in
+    ⊎-elim (λ q. omega (arith, in-block k c q, ends ks (k .column + k .width) 2048 r)) (blocks-below ks (k .column + k .width) c r)
     (one-of (inBlock k c) (inBlocks ks c) e)
-
--- ---- one bit put: a filling of one column
-
-put-length : (w : List ℕ) (x : ℕ) (v : Bool) → length (put w x v) ≡ length w
-unfolding putEach
-put-length w x v = each-length (λ c. true) 1 x (λ c. v) w
-
-put-here : (w : List ℕ) (x : ℕ) (v : Bool) → 2 * x + 1 < length w → elementAt (put w x v) x ≡ bitOf v
-unfolding putEach
-put-here w x v l = each-here (λ c. true) 1 x (λ c. v) w x (omega arith) (omega arith) refl l
-
-put-elsewhere : (w : List ℕ) (x c : ℕ) (v : Bool) → (c ≡ x → ⊥) → elementAt (put w x v) c ≡ elementAt w c
-unfolding putEach
-put-elsewhere w x c v h = each-other (λ c. true) 1 x (λ c. v) w c (λ l m e. h (omega arith))
 
 module _ (cpi d : ℕ) (l : d < cpi) where
   same-column : (c t : ℕ) → c * cpi + d ≡ t * cpi + d → c ≡ t
@@ -153,21 +138,21 @@ module _ (cpi d : ℕ) (l : d < cpi) where
       → elementAt (putBlocks cpi d ks b) (c * cpi + d) ≡ elementAt b (c * cpi + d)
   before-blocks [] o b c t h = refl
   before-blocks (k ∷ ks) o b c t h =
-      let g = after-start o k ks t in
-      before-blocks ks (k .column + k .width) _ c (then-ordered o k ks t) (omega arith)
+      let g = starts o 2048 k ks t in
+      before-blocks ks (k .column + k .width) _ c (goes-on o 2048 k ks t) (omega arith)
       ∙ word-elsewhere (k .column) (k .word) (k .width) b (c * cpi + d) (λ i m e. omega (arith, same-column c (k .column + i) e))
 
-  pub written : (ks : List Block) (o : ℕ) (b : List ℕ) → length b ≡ 8192 * cpi → ordered o ks ≡ true → EachBlock (Written (putBlocks cpi d ks b)) ks
+  pub written : (ks : List Block) (o : ℕ) (b : List ℕ) → length b ≡ 8192 * cpi → ordered o ks ≡ true → All (Written (putBlocks cpi d ks b)) ks
   written [] o b s t = tt
   written (k ∷ ks) o b s t =
-      let r = then-ordered o k ks t in let B = putWord cpi d (k .column) (k .word) (k .width) b in (
+      let r = goes-on o 2048 k ks t in let B = putWord cpi d (k .column) (k .word) (k .width) b in (
         λ i m. before-blocks ks (k .column + k .width) B (k .column + i) r (omega arith)
-            ∙ word-here (k .column) (k .word) (k .width) b s (ordered-below ks (k .column + k .width) r) i m,
+            ∙ word-here (k .column) (k .word) (k .width) b s (ends ks (k .column + k .width) 2048 r) i m,
         written ks (k .column + k .width) B (word-length (k .column) (k .word) (k .width) b ∙ s) r,
       )
 
   -- in a block, a column holds a bit
-  pub holds-bit : (ks : List Block) (batch : List ℕ) → EachBlock (Written batch) ks → (c : ℕ) → inBlocks ks c ≡ true
+  pub holds-bit : (ks : List Block) (batch : List ℕ) → All (Written batch) ks → (c : ℕ) → inBlocks ks c ≡ true
       → elementAt batch (c * cpi + d) ≡ bitOf (eqb (low (elementAt batch (c * cpi + d))) 1)
   holds-bit [] batch h c e = absurd (false≢true e)
   holds-bit (k ∷ ks) batch h c e =
@@ -192,9 +177,9 @@ module _ (cpi d : ℕ) (l : d < cpi) where
       ap (λ (u : List ℕ). put u ((o + n) * cpi + d) (bitAt w n)) (word-again o w n b s (omega arith) (λ i m. h i (omega arith)))
       ∙ put-again b ((o + n) * cpi + d) (bitAt w n) (omega (arith, digits-lt {q = o + n} {m = 2048} {r = d} {c = cpi} (omega arith) l)) (h n (omega arith))
 
-  pub blocks-again : (ks : List Block) (o : ℕ) (b : List ℕ) → length b ≡ 8192 * cpi → ordered o ks ≡ true → EachBlock (Written b) ks → putBlocks cpi d ks b ≡ b
+  pub blocks-again : (ks : List Block) (o : ℕ) (b : List ℕ) → length b ≡ 8192 * cpi → ordered o ks ≡ true → All (Written b) ks → putBlocks cpi d ks b ≡ b
   blocks-again [] o b s t h = refl
   blocks-again (k ∷ ks) o b s t h =
-      let r = then-ordered o k ks t in
-      ap (putBlocks cpi d ks) (word-again (k .column) (k .word) (k .width) b s (ordered-below ks (k .column + k .width) r) (h .0))
+      let r = goes-on o 2048 k ks t in
+      ap (putBlocks cpi d ks) (word-again (k .column) (k .word) (k .width) b s (ends ks (k .column + k .width) 2048 r) (h .0))
       ∙ blocks-again ks (k .column + k .width) b s r (h .1)

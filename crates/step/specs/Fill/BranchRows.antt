@@ -8,16 +8,16 @@ use native.Mathlib.Nat.{add-assoc, mod-lt, lt-of-lt-of-le}
 use native.Mathlib.Omega.{arith}
 use lib.Bits.{bitXor, xor-lt}
 use lib.Pow.{pow-pos}
-use Rattle.field.specs.Gf.Packed.{val-lt}
 use Rattle.field.specs.Sums.{digit}
+use Rattle.field.specs.Sums.Laws.{val-lt}
 use Rattle.layout.specs.Columns.{ONE-COL, RS1, RS2, T1, T2, CARRY-OFF, ALU, IS-LOAD, LD-WORD, FETCH-OP, FETCH-FUNCT3, NH, ZERO, OPSYS, EQFM, EQF, LTSA, LTSB, LTUA, LTUB}
+use Rattle.layout.specs.Lists.{All}
 use Rattle.circuit.specs.Circuit.{bitOf, isOf, extend16Row, extend8Row, opcodeRows, funct3Rows, comparisonRows, muxRows}
-use Rattle.verdict.specs.Verdicts.{All}
 use Rattle.step.specs.Words.{_⊻_}
-use Rattle.step.specs.Step.{opcode, funct3}
+use Rattle.step.specs.Step.{opcode, funct3, funct3-lt}
 use Rattle.step.specs.Solve.{Holds}
 use Rattle.step.specs.Sides.{sum-one, sum-two, sum-not, sum-three, sum-isOf}
-use Rattle.step.specs.Fill.Bits.{bitAt, bit-digit, bit-cut, bit-val, bit-xor}
+use Rattle.step.specs.Fill.Bits.{bitAt, bit-digit, bit-cut, bit-xor, word-bit}
 use Rattle.step.specs.Fill.Fields.{Field, field, flags, pack, flags-fit, Has, HasEach, has-each}
 use Rattle.step.specs.Fill.Lanes.{hot, pair, hot-lt, pair-lt, thirdAgrees, pair-bit, hot-bit}
 use Rattle.step.specs.Fill.Derive.{runWord, compareBits, compareWord, opcodeRun, branchFields, branchWord, flagsAt, topsAt, ByWords}
@@ -28,13 +28,10 @@ module _ (y : ℕ → Bool) (y1 : y ONE-COL ≡ true) (d : ByWords y) where
   abbrev branches : List Field
   branches = branchFields (opcode y) (funct3 y) (topsAt y) (flagsAt y)
 
-  f-lt : funct3 y < 8
-  f-lt = val-lt 3 (λ i. y (FETCH-FUNCT3 + i))
-
   pub has-branches : HasEach (pack branches) 0 branches
   has-branches =
       has-each branches
-      (mod-lt _ (pow-pos 7), (mod-lt _ (pow-pos 7), (pair-lt _, (hot-lt _ f-lt, flags-fit (compareBits (hot (funct3 y)) (topsAt y) (flagsAt y))))))
+      (mod-lt _ (pow-pos 7), (mod-lt _ (pow-pos 7), (pair-lt _, (hot-lt _ (funct3-lt y), flags-fit (compareBits (hot (funct3 y)) (topsAt y) (flagsAt y))))))
 
   pub in-branches : (o n v : ℕ) → Has (pack branches) o (field n v) → o + n ≤ 39 → (i : ℕ) → i < n → y (OPSYS + o + i) ≡ bitAt v i
   unfolding branchWord compareWord
@@ -48,7 +45,7 @@ module _ (y : ℕ → Bool) (y1 : y ONE-COL ≡ true) (d : ByWords y) where
       chain-holds y y1 t 6 (bitXor (opcode y) k) (λ i. isOf (FETCH-OP + i) (bitOf k i))
       (lt-of-lt-of-le (xor-lt 7 (opcode y) k (val-lt 7 (λ i. y (FETCH-OP + i))) l) (omega arith)) (omega arith)
       (λ i m. sum-isOf y y1 (FETCH-OP + i) (bitOf k i) ∙ alike-not (y (FETCH-OP + i)) (bitAt k i)
-      ∙ ap not (ap (λ (b : Bool). b ⊻ bitAt k i) (sym (bit-val (λ j. y (FETCH-OP + j)) 7 i (omega arith))) ∙ sym (bit-xor (opcode y) k i)))
+      ∙ ap not (ap (λ (b : Bool). b ⊻ bitAt k i) (sym (word-bit y FETCH-OP 7 i (omega arith))) ∙ sym (bit-xor (opcode y) k i)))
       (λ i m. h i (omega arith) ∙ bit-cut (runWord (bitXor (opcode y) k)) 7 i (omega arith))
 
   eqfm : (i : ℕ) → i < 8 → y (EQFM + i) ≡ bitAt (pair (funct3 y)) i
@@ -60,8 +57,8 @@ module _ (y : ℕ → Bool) (y1 : y ONE-COL ≡ true) (d : ByWords y) where
   pub funct3-hold : (f : ℕ) → f < 8 → All (Holds y) (funct3Rows f)
   funct3-hold f l =
       stages-hold y y1 FETCH-FUNCT3 f (EQFM + f) (EQF + f) (λ i. isOf (FETCH-FUNCT3 + i) (bitOf f i)) (λ i. sum-isOf y y1 (FETCH-FUNCT3 + i) (bitOf f i))
-      (eqfm f l ∙ pair-bit (funct3 y) f f-lt l)
-      (eqf f l ∙ hot-bit (funct3 y) f f-lt l ∙ ap (λ (b : Bool). b && thirdAgrees (funct3 y) f) (sym (eqfm f l)))
+      (eqfm f l ∙ pair-bit (funct3 y) f (funct3-lt y) l)
+      (eqf f l ∙ hot-bit (funct3 y) f (funct3-lt y) l ∙ ap (λ (b : Bool). b && thirdAgrees (funct3 y) f) (sym (eqfm f l)))
 
   has-bits : HasEach (pack branches) 30 (flags (compareBits (hot (funct3 y)) (topsAt y) (flagsAt y)))
   has-bits = has-branches .1 .1 .1 .1

@@ -12,27 +12,27 @@ use lib.ListN.{length}
 use Rattle.field.specs.declared.Gf128.{Gf128}
 use Rattle.field.specs.Gf.{low}
 use Rattle.field.specs.Sums.{digit}
+use Rattle.field.specs.Sums.Laws.{val-same}
+use Rattle.field.specs.Gf.Bits.{bitOf, low-bit}
 use Rattle.layout.specs.Columns.{ONE-COL, RS1, RS2, LOAD-VAL, T1, T2, CARRY-OFF, ALU, SHIFT-SRC, STORE-OLD, STORE-SRC, FLAGS, SUB, HALT, TAKEN, FETCH, EQA, ZERO, OPSYS}
 use Rattle.layout.specs.Batch.{columnAt}
 use Rattle.layout.specs.Mapping.{witness-column}
+use Rattle.layout.specs.Lists.{All}
 use Rattle.verdict.specs.Row.{elementAt, cycleOf}
-use Rattle.verdict.specs.OverBits.{bitOf}
 use Rattle.step.specs.Words.{bitsOf, word}
-use Rattle.step.specs.Numbers.{val-same}
 use Rattle.step.specs.Step.{opcode, funct3, offset}
 use Rattle.step.specs.Derived.{derived, derivedIn, derived-below, one-given}
 use Rattle.step.specs.Given.{allGiven, given-at}
 use Rattle.step.specs.Determining.{filledBits, filled-only}
 use Rattle.step.specs.Filling.{NotDerived}
 use Rattle.step.specs.Placed.{not-derived}
-use Rattle.step.specs.Batch.{low-bit}
 use Rattle.step.specs.declared.derive.GivenWords.{GivenWords}
 use Rattle.step.specs.declared.derive.DerivedWords.{DerivedWords}
-use Rattle.step.specs.Fill.Bits.{bitAt, bit-digit, bit-shr, bit-val, word-part}
+use Rattle.step.specs.Fill.Bits.{bitAt, bit-digit, bit-shr, word-part, word-bit}
 use Rattle.step.specs.Fill.Lanes.{same-below}
 use Rattle.step.specs.Fill.Derive.{carryWord, runWord, laneWord, branchWord, takenBit, flagsAt, topsAt, ByWords}
 use Rattle.step.specs.Fill.Rows.{rows-hold}
-use Rattle.step.specs.Fill.Blocks.{Block, block, putBlocks, ordered, inBlocks, EachBlock, Written, blocks-below, blocks-length, blocks-elsewhere, written, holds-bit}
+use Rattle.step.specs.Fill.Blocks.{Block, block, putBlocks, ordered, inBlocks, Written, blocks-below, blocks-length, blocks-elsewhere, written, holds-bit}
 use Rattle.step.specs.Fill.Words.{wordAt, givenWords, flagsOf, topsOf, lanesOf, carryOf, derivedWords, flagBlocks, highBlocks, blocks, fillCycle}
 
 -- ---- the two computed tests: the blocks are in order, and are the derived columns
@@ -68,13 +68,13 @@ module _ (cpi d : ℕ) (l : d < cpi) (b : List ℕ) (s : length b ≡ 8192 * cpi
   abbrev y : ℕ → Bool
   y = bitsOf cpi W d
 
-  parts : EachBlock (Written cpi d l W) ks
+  parts : All (Written cpi d l W) ks
   parts = written cpi d l ks 0 b s (blocks-ordered g w)
 
-  flag-parts : EachBlock (Written cpi d l W) (flagBlocks w ++ highBlocks w)
+  flag-parts : All (Written cpi d l W) (flagBlocks w ++ highBlocks w)
   flag-parts = parts .1 .1 .1 .1
 
-  high-parts : EachBlock (Written cpi d l W) (highBlocks w)
+  high-parts : All (Written cpi d l W) (highBlocks w)
   high-parts = flag-parts .1 .1
 
   -- ---- what stays
@@ -107,7 +107,7 @@ module _ (cpi d : ℕ) (l : d < cpi) (b : List ℕ) (s : length b ≡ 8192 * cpi
 
   given-bit : (o i : ℕ) → i < 64 → derived (o + i) ≡ false → bitAt (wordAt cpi b d o) i ≡ y (o + i)
   unfolding wordAt
-  given-bit o i m e = bit-val (λ j. z (o + j)) 64 i m ∙ sym (kept (o + i) e)
+  given-bit o i m e = word-bit z o 64 i m ∙ sym (kept (o + i) e)
 
   given-part : (o k n : ℕ) → k + n ≤ 64 → allGiven (o + k) n ≡ true → wordAt cpi b d o / 2 ^ k % 2 ^ n ≡ word y (o + k) n
   unfolding wordAt

@@ -6,38 +6,26 @@ use mathlib.Core.Bool.{Bool, true}
 use mathlib.Core.List.{List}
 use Prim.Native.Nat.{ℕ, zero, suc, _+_, _*_, _-_, _/_, _%_, _≤_, _<_}
 use native.Mathlib.Nat.{eq-or-lt-of-le, le-of-suc-le-suc, not-suc-le-zero, mod-lt, div-add-mod'}
-use native.Mathlib.Decide.{ℕ-discrete, decLt}
+use native.Mathlib.Decide.{ℕ-discrete}
 use native.Mathlib.Omega.{arith}
-use borrow.Author.Tests.{le-ltb}
-use lib.Arith.{digits-mod}
 use lib.Dec.{eqb}
 use lib.ListN.{length}
 use Rattle.field.specs.declared.Gf128.{Gf128}
 use Rattle.field.specs.Gf as gf
 use Rattle.field.specs.Gf.{low}
+use Rattle.field.specs.Gf.Bits.{bitOf}
 use Rattle.layout.specs.Columns.{ONE-COL}
 use Rattle.layout.specs.Batch.{columnAt}
-use Rattle.layout.specs.Mapping.{witness-column}
-use Rattle.layout.specs.Questions.{refused}
+use Rattle.layout.specs.Mapping.{column-cycle}
 use Rattle.verdict.specs.Row.{elementAt, cycleOf}
-use Rattle.verdict.specs.OverBits.{bitOf}
 use Rattle.step.specs.Words.{bitsOf}
 use Rattle.step.specs.Derived.{derivedIn}
 use Rattle.step.specs.Determining.{filledBits}
 use Rattle.step.specs.Filling.{fillerBits, filled}
 use Rattle.step.specs.Placed.{is-filling}
-use Rattle.step.specs.Batch.{low-bit}
 use Rattle.step.specs.Fill.Words.{fillCycle, fillCycles}
 use Rattle.step.specs.Fill.Cycle.{cycle-length, cycle-given, cycle-other, cycle-derived}
-
--- a column of cycle d is a public one, or its batch column leaves d
-column-cycle : (cpi c d : ℕ) → d < cpi → columnAt cpi c d < 2048 * cpi → columnAt cpi c d % cpi ≡ d
-unfolding columnAt
-column-cycle cpi c d h m =
-    elim (decLt c 2048) [
-      | yes k ↦ ap (λ (x : ℕ). x % cpi) (witness-column cpi c d k) ∙ digits-mod c h
-      | no f ↦ let p : 2048 * cpi + (c - 2048) ≡ columnAt cpi c d = refused _ _ _ (le-ltb c 2048 (omega arith)) in absurd (omega arith)
-    ]
+use Rattle.step.specs.Batch.{one-is-set}
 
 module _ (cpi : ℕ) (b : List ℕ) (words : length b ≡ 8192 * cpi) (one-is : elementAt b (2048 * cpi) ≡ gf.one) where
   -- the derived columns of cycles 0 .. n - 1 are filled, and nothing else is changed
@@ -48,10 +36,6 @@ module _ (cpi : ℕ) (b : List ℕ) (words : length b ≡ 8192 * cpi) (one-is : 
     pub lengths : length B ≡ length b
     pub done : (x : ℕ) → Done n x → elementAt B x ≡ bitOf (fillerBits cpi b x)
     pub left : (x : ℕ) → (Done n x → ⊥) → elementAt B x ≡ elementAt b x
-
-  one-bit : (d : ℕ) → bitsOf cpi b d ONE-COL ≡ true
-  unfolding bitsOf cycleOf columnAt
-  one-bit d = ap (λ (x : Gf128). eqb (low x) 1) (ap (elementAt b) (omega arith) ∙ one-is) ∙ low-bit true
 
   module _ (n : ℕ) (B : List ℕ) (l : n < cpi) (h : DoneTo n B) where
     sized : length B ≡ 8192 * cpi
@@ -69,7 +53,7 @@ module _ (cpi : ℕ) (b : List ℕ) (words : length b ≡ 8192 * cpi) (one-is : 
     here : (x : ℕ) → x % cpi ≡ n → derivedIn cpi x ≡ true → elementAt (fillCycle cpi n B) x ≡ bitOf (fillerBits cpi b x)
     here x e q =
         ap (elementAt (fillCycle cpi n B)) (sym (at x e))
-        ∙ cycle-derived cpi n l B sized (ap (λ (f : ℕ → Bool). f ONE-COL) same-cycle ∙ one-bit n) (x / cpi) q
+        ∙ cycle-derived cpi n l B sized (ap (λ (f : ℕ → Bool). f ONE-COL) same-cycle ∙ one-is-set cpi b one-is n) (x / cpi) q
         ∙ ap (λ (f : ℕ → Bool). bitOf (filledBits f (x / cpi))) (same-cycle ∙ ap (bitsOf cpi b) (sym e))
 
     pub done-more : DoneTo (suc n) (fillCycle cpi n B)

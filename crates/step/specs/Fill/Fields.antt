@@ -3,11 +3,12 @@
 use mathlib.Core.Path.{_≡_, sym, ap, _∙_}
 use mathlib.Core.Bool.{Bool, true, false, _&&_, and-true, and-false}
 use mathlib.Core.List.{List, [], _∷_}
-use Prim.Native.Nat.{ℕ, _+_, _*_, _%_, _^_, _<_}
-use native.Mathlib.Nat.{zero-add, add-assoc, one-mul, zero-mul, zero-div}
+use Prim.Native.Nat.{ℕ, _+_, _*_, _^_, _<_}
+use native.Mathlib.Nat.{zero-add, add-assoc, one-mul, zero-mul}
+use native.Mathlib.Omega.{arith}
 use Rattle.field.specs.Sums.{digit}
-use Rattle.step.specs.Numbers.{isSet, digit-lt}
-use Rattle.step.specs.Fill.Bits.{bitAt, bit-low, bit-high}
+use Rattle.field.specs.Sums.Laws.{digit-lt}
+use Rattle.step.specs.Fill.Bits.{bitAt, bit-low, bit-high, no-bit}
 
 pub record Field : Type 0 where
   pub width : ℕ
@@ -59,4 +60,8 @@ has-each fs t = has-from (pack fs) fs 0 t (λ i. ap (bitAt (pack fs)) (zero-add 
 pub gated : (b : Bool) (h i : ℕ) → bitAt (digit b * h) i ≡ (bitAt h i && b)
 gated true h i = ap (λ (m : ℕ). bitAt m i) (one-mul h) ∙ sym (and-true (bitAt h i))
 gated false h i =
-    ap (λ (m : ℕ). bitAt m i) (zero-mul h) ∙ ap (λ (q : ℕ). isSet (q % 2)) (zero-div (2 ^ i)) ∙ sym (and-false (bitAt h i))
+    ap (λ (m : ℕ). bitAt m i) (zero-mul h) ∙ no-bit i ∙ sym (and-false (bitAt h i))
+
+pub gated-lt : (b : Bool) (h n : ℕ) → h < n → digit b * h < n
+gated-lt true h n l = omega arith
+gated-lt false h n l = omega arith

@@ -7,17 +7,17 @@ use Prim.Native.Nat.{ℕ, zero, suc, _+_, _-_, _^_, _≤_, _<_}
 use native.Mathlib.Nat.{add-zero}
 use native.Mathlib.Omega.{arith}
 use Rattle.layout.specs.Columns.{ONE-COL}
+use Rattle.layout.specs.Lists.{All}
 use Rattle.circuit.specs.Rows.{Term, from}
 use Rattle.circuit.specs.Circuit.{col, one, row, copyRow, chainStart, chainNext}
+use Rattle.circuit.specs.Families.{all-from}
 use Rattle.verdict.specs.OverBits.{sumBits}
-use Rattle.verdict.specs.Verdicts.{All}
 use Rattle.step.specs.Words.{_⊻_, word}
 use Rattle.step.specs.Cases.{of-two, xor-self, xor-false}
 use Rattle.step.specs.Chain.{alike}
 use Rattle.step.specs.Solve.{lacks, Holds}
-use Rattle.step.specs.Families.{all-from}
 use Rattle.step.specs.Sides.{sum-one, sum-more, sum-two}
-use Rattle.step.specs.Fill.Bits.{bitAt, bit-val, run-first, run-next}
+use Rattle.step.specs.Fill.Bits.{bitAt, run-first, run-next, word-bit}
 use Rattle.step.specs.Fill.Lanes.{lowAgree, thirdAgrees}
 use Rattle.step.specs.Fill.Derive.{runWord}
 
@@ -64,7 +64,7 @@ module _ (y : ℕ → Bool) (y1 : y ONE-COL ≡ true) where
       → y e ≡ (y p && thirdAgrees (word y o 3) v)
       → All (Holds y) (row (test 0) (test 1) (col p ∷ []) ∷ row (col p ∷ []) (test 2) (col e ∷ []) ∷ [])
   stages-hold o v p e test s hp he =
-      let b : ((i : ℕ) → i < 3 → bitAt (word y o 3) i ≡ y (o + i)) = bit-val (λ i. y (o + i)) 3 in (
+      let b : ((i : ℕ) → i < 3 → bitAt (word y o 3) i ≡ y (o + i)) = word-bit y o 3 in (
         product-holds _ _ _ (s 0) (s 1)
             (hp ∙ ap₂ (λ (a c : Bool). alike a (bitAt v 0) && alike c (bitAt v 1)) (b 0 (omega arith)) (b 1 (omega arith))),
         (product-holds _ _ _ (sum-one y y1 p) (s 2) (he ∙ ap (λ (a : Bool). y p && alike a (bitAt v 2)) (b 2 (omega arith))), tt),

@@ -1,28 +1,23 @@
 -- The rows of the byte lanes hold, where the columns are as the words say, and the gates beside them are what they say.
 -- Assumes nothing.
 use mathlib.Core.Path.{_≡_, sym, ap, _∙_}
-use mathlib.Core.Bool.{Bool, true, false, not, _&&_}
+use mathlib.Core.Bool.{Bool, true, not, _&&_}
 use mathlib.Core.List.{List}
-use Prim.Native.Nat.{ℕ, _+_, _*_, _%_, _^_, _≤_, _<_}
+use Prim.Native.Nat.{ℕ, _+_, _*_, _%_, _≤_, _<_}
 use native.Mathlib.Nat.{add-assoc}
 use native.Mathlib.Omega.{arith}
-use Rattle.field.specs.Gf.Packed.{val-lt}
 use Rattle.field.specs.Sums.{digit}
 use Rattle.layout.specs.Columns.{ONE-COL, WE, IS-LOAD, LD-BYTE, LD-HALF, LD-WORD, OFF, EQA, PA, EQB, PB, NH, WNL}
+use Rattle.layout.specs.Lists.{All}
 use Rattle.circuit.specs.Circuit.{product, bitOf, is, offsetRows, laneRows, conditionalRows}
-use Rattle.verdict.specs.Verdicts.{All}
-use Rattle.step.specs.Step.{offset}
+use Rattle.step.specs.Step.{offset, offset-lt}
 use Rattle.step.specs.Solve.{Holds}
 use Rattle.step.specs.Sides.{sum-one, sum-is}
 use Rattle.step.specs.Fill.Bits.{bitAt, bit-digit}
-use Rattle.step.specs.Fill.Fields.{Field, field, pack, flags-fit, Has, HasEach, has-each, gated}
+use Rattle.step.specs.Fill.Fields.{Field, field, pack, flags-fit, Has, HasEach, has-each, gated, gated-lt}
 use Rattle.step.specs.Fill.Lanes.{hot, pair, next, hot-lt, pair-lt, lowAgree, thirdAgrees, pair-bit, hot-bit, pair-next, hot-next}
 use Rattle.step.specs.Fill.Derive.{gateBits, laneFields, laneWord, flagsAt, ByWords}
 use Rattle.step.specs.Fill.Holds.{_and_, product-holds, stages-hold}
-
-gate-lt : (b : Bool) (x : ℕ) → x < 8 → digit b * hot x < 2 ^ 8
-gate-lt true x l = omega (arith, hot-lt x l)
-gate-lt false x l = omega arith
 
 module _ (y : ℕ → Bool) (y1 : y ONE-COL ≡ true) (d : ByWords y) where
   abbrev x : ℕ
@@ -31,15 +26,12 @@ module _ (y : ℕ → Bool) (y1 : y ONE-COL ≡ true) (d : ByWords y) where
   abbrev fields : List Field
   fields = laneFields x (flagsAt y)
 
-  x-lt : x < 8
-  x-lt = val-lt 3 (λ i. y (OFF + i))
-
   has-lanes : HasEach (pack fields) 0 fields
   has-lanes =
-      let m : next x < 8 = omega arith in let l = x-lt in
+      let m : next x < 8 = omega arith in let l = offset-lt y in
       has-each fields
       (hot-lt x l and pair-lt x and hot-lt _ m and pair-lt _
-      and gate-lt (y LD-BYTE) x l and gate-lt (y LD-HALF) x l and gate-lt (y LD-HALF) _ m and flags-fit (gateBits (flagsAt y)))
+      and gated-lt (y LD-BYTE) _ _ (hot-lt x l) and gated-lt (y LD-HALF) _ _ (hot-lt x l) and gated-lt (y LD-HALF) _ _ (hot-lt _ m) and flags-fit (gateBits (flagsAt y)))
 
   in-lanes : (o n v : ℕ) → Has (pack fields) o (field n v) → o + n ≤ 58 → (i : ℕ) → i < n → y (EQA + o + i) ≡ bitAt v i
   unfolding laneWord
@@ -64,12 +56,12 @@ module _ (y : ℕ → Bool) (y1 : y ONE-COL ≡ true) (d : ByWords y) where
   pub lanes-hold : (a : ℕ) → a < 8 → All (Holds y) (laneRows a)
   lanes-hold a l =
       let v = (a + 7) % 8 in
-      let s = offset-holds a (PA + a) (EQA + a) (pa a l ∙ pair-bit x a x-lt l)
-      (eqa a l ∙ hot-bit x a x-lt l ∙ ap (λ (b : Bool). b && thirdAgrees x a) (sym (pa a l))) in
+      let s = offset-holds a (PA + a) (EQA + a) (pa a l ∙ pair-bit x a (offset-lt y) l)
+      (eqa a l ∙ hot-bit x a (offset-lt y) l ∙ ap (λ (b : Bool). b && thirdAgrees x a) (sym (pa a l))) in
       s .0
       and s .1 .0
-      and offset-holds v (PB + a) (EQB + a) (pb a l ∙ pair-next x a x-lt l)
-      (eqb a l ∙ hot-next x a x-lt l ∙ ap (λ (b : Bool). b && thirdAgrees x v) (sym (pb a l)))
+      and offset-holds v (PB + a) (EQB + a) (pb a l ∙ pair-next x a (offset-lt y) l)
+      (eqb a l ∙ hot-next x a (offset-lt y) l ∙ ap (λ (b : Bool). b && thirdAgrees x v) (sym (pb a l)))
 
   -- lane a of a field that a flag gates
   conditional-holds : (column flag o lanes a : ℕ) → a < 8 → y (column + a) ≡ bitAt lanes a → Has (pack fields) o (field 8 (digit (y flag) * lanes)) → o + 8 ≤ 58

@@ -1,13 +1,12 @@
 -- Words with one bit of eight set, or one of each four: which lane an offset or funct3 is. By computing every case.
 -- Assumes nothing.
-use mathlib.Core.Path.{_≡_, refl, sym, subst}
-use mathlib.Core.Logic.{⊎-elim}
-use mathlib.Core.Bool.{Bool, true, false, not, _&&_}
-use Prim.Native.Nat.{ℕ, zero, suc, _+_, _*_, _%_, _^_, _<_}
-use native.Mathlib.Nat.{le-of-suc-le-suc, not-suc-le-zero, eq-or-lt-of-le}
+use mathlib.Core.Path.{_≡_, refl}
+use mathlib.Core.Bool.{Bool, true, not, _&&_}
+use Prim.Native.Nat.{ℕ, _+_, _*_, _%_, _^_, _<_}
 use native.Mathlib.Omega.{arith}
+use borrow.Author.Tests.{not-true}
 use lib.Pow.{pow-lt, pow-mono}
-use Rattle.layout.specs.Questions.{both}
+use Rattle.layout.specs.Lists.{allBelow, below-at}
 use Rattle.step.specs.Words.{_⊻_}
 use Rattle.step.specs.Cases.{xor-cancel}
 use Rattle.step.specs.Chain.{alike}
@@ -31,24 +30,10 @@ hot-lt x l = pow-lt l
 pub pair-lt : (x : ℕ) → pair x < 2 ^ 8
 pair-lt x = omega (arith, pow-mono {i = x % 4} {j = 3} (omega arith))
 
--- ---- a test of every number below n
-
-abbrev pub allBelow : ℕ → (ℕ → Bool) → Bool
-allBelow zero f = true
-allBelow (suc n) f = f n && allBelow n f
-
-pub below-at : (n : ℕ) (f : ℕ → Bool) → allBelow n f ≡ true → (i : ℕ) → i < n → f i ≡ true
-below-at zero f t i l = absurd (not-suc-le-zero l)
-below-at (suc n) f t i l =
-    let p = both (f n) (allBelow n f) t in
-    ⊎-elim (λ e. subst (λ (k : ℕ). f k ≡ true) (sym e) (p .0)) (λ k. below-at n f (p .1) i k) (eq-or-lt-of-le (le-of-suc-le-suc l))
+-- ---- two tests of every number below n
 
 pub same-below : (n : ℕ) (f g : ℕ → Bool) → allBelow n (λ i. not (f i ⊻ g i)) ≡ true → (i : ℕ) → i < n → f i ≡ g i
-same-below n f g t i l = xor-cancel (f i) (g i) (flip (f i ⊻ g i) (below-at n (λ i. not (f i ⊻ g i)) t i l))
-  where
-    flip : (b : Bool) → not b ≡ true → b ≡ false
-    flip true e = sym e
-    flip false e = refl
+same-below n f g t i l = xor-cancel (f i) (g i) (not-true (f i ⊻ g i) (below-at n (λ i. not (f i ⊻ g i)) t i l))
 
 -- ---- the bits, for every x and every lane
 

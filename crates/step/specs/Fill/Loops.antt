@@ -12,19 +12,19 @@ use lib.ListN.{set}
 use lib.Pow.{pow-mono, shr-shr, shl-exact}
 use Rattle.field.specs.declared.Gf128.{Gf128}
 use Rattle.field.specs.Gf.{low}
-use Rattle.field.specs.Gf.Packed.{val-lt}
 use Rattle.field.specs.Sums.{digit, val}
+use Rattle.field.specs.Sums.Laws.{val-lt, val-same}
 use Rattle.layout.specs.Mapping.{witness-column}
 use Rattle.verdict.specs.Row.{elementAt, cycleOf}
 use Rattle.step.specs.Words.{_⊻_, bitsOf, word}
 use Rattle.step.specs.Cases.{of-two}
-use Rattle.step.specs.Numbers.{isSet, val-same}
+use Rattle.step.specs.Numbers.{isSet, digit-of}
 use Rattle.step.specs.Filling.{put}
 use Rattle.step.specs.declared.derive.Flags.{Flags}
 use Rattle.step.specs.declared.derive.Tops.{Tops}
 use Rattle.step.specs.declared.derive.GivenWords.{GivenWords}
 use Rattle.step.specs.declared.derive.DerivedWords.{DerivedWords}
-use Rattle.step.specs.Fill.Bits.{bitAt, digit-of, bit-shr}
+use Rattle.step.specs.Fill.Bits.{bitAt, bit-shr}
 use Rattle.step.specs.Fill.Fields.{pack, flags}
 use Rattle.step.specs.Fill.Lanes.{hot, pair, next, hot-lt, pair-lt}
 use Rattle.step.specs.Fill.Derive.{gateBits, laneWord, compareWord}

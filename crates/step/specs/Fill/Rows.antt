@@ -5,10 +5,10 @@ use mathlib.Core.Bool.{Bool, true}
 use Prim.Native.Nat.{ℕ, _+_}
 use native.Mathlib.Omega.{arith}
 use Rattle.layout.specs.Columns.{ONE-COL, WE, IS-LOAD, HALT, LD-HALF, LD-WORD, OPSYS, OPBR, EQF, CEQ, CLT, CLU}
+use Rattle.layout.specs.Lists.{All, all-joined}
 use Rattle.circuit.specs.Circuit.{adderRow, copyRows, neitherRow, takenRow, writeGateRow, laneRows, conditionalRows, funct3Rows}
-use Rattle.verdict.specs.Verdicts.{All}
+use Rattle.circuit.specs.Families.{all-from, all-each}
 use Rattle.step.specs.Solve.{Holds}
-use Rattle.step.specs.Families.{all-joined, all-from, all-each}
 use Rattle.step.specs.Determining.{beforeHalt, afterHalt, determiningFamilies, determining}
 use Rattle.step.specs.Sides.{sum-one, sum-not, sum-six}
 use Rattle.step.specs.Fill.Derive.{ByWords}

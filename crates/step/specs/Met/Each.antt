@@ -10,13 +10,13 @@ use borrow.Author.Tests.{eqb-true, eq-eqb, not-true}
 use lib.Dec.{eqb}
 use Rattle.field.specs.declared.Gf128.{Gf128}
 use Rattle.field.specs.Gf.{ofWords, same}
-use Rattle.field.specs.Gf.Packed.{val-lt}
 use Rattle.field.specs.Gf.Tests.{same-true, same-self}
 use Rattle.field.specs.Sums.{digit}
-use Rattle.layout.specs.Columns.{RS1, RD, LOAD-VAL, SHIFT-OUT, T1, T2, ALU, SUB, WE, IS-LOAD, IS-STORE, IS-ARITH, IS-SHIFT, LD-BYTE, LD-HALF, LD-WORD, OFF, RAM-ADDR}
+use Rattle.field.specs.Sums.Laws.{val-lt}
+use Rattle.layout.specs.Columns.{RS1, RD, LOAD-VAL, SHIFT-OUT, T1, T2, ALU, SUB, WE, IS-LOAD, IS-STORE, IS-ARITH, IS-SHIFT, LD-BYTE, LD-HALF, LD-WORD, RAM-ADDR}
 use Rattle.step.specs.Words.{_⊻_, word}
 use Rattle.step.specs.Adder.{Carries, wrapping-sum}
-use Rattle.step.specs.Step.{opcode, offset, byte}
+use Rattle.step.specs.Step.{opcode, offset, byte, offset-lt}
 use Rattle.step.specs.Fill.Bits.{word-part}
 use Rattle.step.specs.Met.{wordsOf, flagsOf, _⇒_, byteOf, conditions, numbered}
 
@@ -68,11 +68,8 @@ module _ (b : ℕ → Bool) (output : Gf128) where
   unfolding byteOf
   byte-in o k l = word-part b o 64 (8 * k) 8 (omega arith)
 
-  off-lt : offset b < 8
-  off-lt = val-lt 3 (λ i. b (OFF + i))
-
   first-byte : (eqb (byteOf (word b RD 64) 0) (byteOf (word b LOAD-VAL 64) (offset b)) ≡ true) ↔ (byte b RD 0 ≡ byte b LOAD-VAL (offset b))
-  first-byte = Iff·trans (equal _ _) (instead (byte-in RD 0 (omega arith)) (byte-in LOAD-VAL (offset b) off-lt))
+  first-byte = Iff·trans (equal _ _) (instead (byte-in RD 0 (omega arith)) (byte-in LOAD-VAL (offset b) (offset-lt b)))
 
   next-byte : (eqb (byteOf (word b RD 64) 1) (byteOf (word b LOAD-VAL 64) ((offset b + 1) % 8)) ≡ true)
       ↔ (byte b RD 1 ≡ byte b LOAD-VAL ((offset b + 1) % 8))

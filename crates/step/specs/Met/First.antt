@@ -5,7 +5,7 @@ use mathlib.Core.Path.{_≡_, refl, sym, ap, _∙_}
 use mathlib.Core.Logic.{_↔_, Iff·trans}
 use mathlib.Core.Bool.{Bool, true, false, not, cond}
 use mathlib.Core.List.{List}
-use Prim.Native.Nat.{ℕ, zero, suc, _+_, _≤_, _<_}
+use Prim.Native.Nat.{ℕ, _+_, _≤_, _<_}
 use native.Mathlib.Omega.{arith}
 use borrow.Author.Tests.{lt-ltb, ltb-true, ltb-false, not-true, not-false}
 use lib.Dec.{ltb}
@@ -14,23 +14,13 @@ use Rattle.layout.specs.declared.Asked.the-variants.{Yes}
 use Rattle.layout.specs.Columns.{ONE-COL}
 use Rattle.layout.specs.Questions.{no, passed}
 use Rattle.verdict.specs.Row.{cycleOf}
-use Rattle.verdict.specs.Bits.{firstFrom, first-passes, first-least}
+use Rattle.verdict.specs.Bits.{firstFrom, first-passes, first-least, first-from}
 use Rattle.step.specs.Words.{bitsOf}
 use Rattle.step.specs.Step.{Step}
 use Rattle.step.specs.declared.conditions.StepAnswer.the-variants.{Meets, Unmet, Refused}
 use Rattle.step.specs.Fill.{fillAsked}
 use Rattle.step.specs.Met.{named, firstFalse, firstUnmet, ifAsked, ifInside, stepAnswer}
 use Rattle.step.specs.Met.Each as each
-
--- a search starts at its first number
-first-from : (test : ℕ → Bool) (n i : ℕ) → i ≤ firstFrom test i n
-unfolding firstFrom
-first-from test zero i = omega arith
-first-from test (suc n) i = go (test i) (first-from test n (i + 1))
-  where
-    go : (t : Bool) → i + 1 ≤ firstFrom test (i + 1) n → i ≤ cond t i (firstFrom test (i + 1) n)
-    go true h = omega arith
-    go false h = omega arith
 
 -- which number an answer names
 none-named : (n : ℕ) → named n ≡ Meets → 10 < n

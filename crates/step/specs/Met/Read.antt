@@ -8,7 +8,7 @@ use native.Mathlib.Omega.{arith}
 use Rattle.layout.specs.Columns.{FLAGS, FETCH}
 use Rattle.step.specs.Words.{word}
 use Rattle.step.specs.Step.{opcode}
-use Rattle.step.specs.Fill.Bits.{bitAt, bit-val, word-part}
+use Rattle.step.specs.Fill.Bits.{bitAt, word-part, word-bit}
 use Rattle.step.specs.Met.{flagsOf, flagsIn}
 
 module _ (b : ℕ → Bool) where
@@ -16,7 +16,7 @@ module _ (b : ℕ → Bool) where
   opcode-in = ap (λ (q : ℕ). q % 2 ^ 7) (sym (div-one (word b FETCH 64))) ∙ word-part b FETCH 64 0 7 (omega arith)
 
   flag : (i : ℕ) → i < 64 → bitAt (word b FLAGS 64) i ≡ b (FLAGS + i)
-  flag = bit-val (λ j. b (FLAGS + j)) 64
+  flag = word-bit b FLAGS 64
 
   pub flags-in : flagsIn (word b FLAGS 64) ≡ flagsOf b
   flags-in =

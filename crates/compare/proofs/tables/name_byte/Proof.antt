@@ -7,12 +7,13 @@ use borrow.Author.Tests.{lt-ltb, le-ltb}
 use lib.ListN.{length, getD, List·getD-eq-default}
 use Rattle.layout.specs.Questions.{passed, refused}
 use Rattle.layout.specs.Segments.{segments, segmentNames}
+use Rattle.layout.specs.Lists.{joined}
 use Rattle.compare.proofs.Entries.{inside}
 use Rattle.compare.proofs.tables.name_byte.Statement.{statement}
 use Rattle.compare.proofs.tables.name_byte.Tie as tie
 
 name-bytes : length (segmentNames segments) ≡ 171
-unfolding segments
+unfolding segments joined
 name-bytes = refl
 
 past-name : tie.Need-returns

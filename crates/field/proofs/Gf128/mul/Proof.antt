@@ -5,9 +5,10 @@ use native.Mathlib.Omega.{arith}
 use borrow.Author.Needs.{needs}
 use Rattle.field.specs.declared.Gf128.{Gf128}
 use Rattle.field.specs.Gf.{zero, product}
-use Rattle.field.specs.Gf.Tests.{odd, isBit-true, bit-mul, mul-bit}
+use Rattle.field.specs.Gf.Tests.{odd, isBit-true}
 use Rattle.field.proofs.Gf128.mul.Statement.{statement}
 use Rattle.field.proofs.Gf128.mul.Tie as tie
+use Rattle.field.specs.Gf.Bits.{bit-mul, mul-bit}
 
 left-is-bit : tie.Need-returns
 left-is-bit c =

@@ -4,9 +4,10 @@ use mathlib.Core.Path.{refl}
 use Rattle.layout.specs.Segments.{segments}
 use Rattle.layout.proofs.segments.segment_names.Statement.{statement}
 use Rattle.layout.proofs.segments.segment_names.Tie as tie
+use Rattle.layout.specs.Lists.{joined}
 
 returns : tie.Need-returns
-unfolding segments
+unfolding segments joined
 returns c = refl
 
 pub segment-names-spec : {M : Type 1} → statement M

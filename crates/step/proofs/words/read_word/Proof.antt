@@ -6,7 +6,7 @@ use native.Mathlib.Nat.{add-zero}
 use native.Mathlib.Omega.{arith}
 use borrow.Author.Needs.{needs}
 use Rattle.field.specs.Sums.{val}
-use Rattle.step.specs.Numbers.{digit-lt}
+use Rattle.field.specs.Sums.Laws.{digit-lt}
 use Rattle.step.specs.Words.{bitsOf, word}
 use Rattle.step.specs.Fill.Words.{wordAt}
 use Rattle.step.specs.Fill.Loops.{word-turn, word-fits}

@@ -10,6 +10,7 @@ use borrow.Author.Tests.{not-true, not-false}
 use denote.Ref.{now}
 use lib.ListN.{length, getD, drop, drop-of-length-le}
 use Rattle.layout.specs.Questions.{both}
+use Rattle.layout.specs.Lists.{All}
 use Rattle.circuit.specs.Rows.{Row}
 use Rattle.circuit.specs.Parse.{parse, rowsOf}
 use Rattle.verdict.specs.declared.rows.Tested.{Tested}
@@ -17,7 +18,6 @@ use Rattle.verdict.specs.Row.{cycleOf}
 use Rattle.verdict.specs.Runs.{sorted, at-mark}
 use Rattle.verdict.specs.Walks.{Cycle, RowTested}
 use Rattle.verdict.specs.Left.{rowAt, rows-here}
-use Rattle.verdict.specs.Verdicts.{All}
 use Rattle.verdict.specs.Ahead.{HoldsAhead}
 use Rattle.verdict.proofs.walk.rows_ahead.Statement.{statement}
 use Rattle.verdict.proofs.walk.rows_ahead.Tie as tie
