@@ -5,7 +5,7 @@
 # shellcheck disable=SC2154 # root, original and logs are the caller's
 
 registry=/usr/share/cargo/registry # where Debian puts the sources of Rust crates
-oldest_rust=73                     # 1.73: the original calls div_ceil on unsigned numbers
+oldest_rust=77                     # 1.77: the comparison calls each_ref on arrays (the original needs 1.73)
 lacking=
 PATH=$PATH${HOME:+:$HOME/.cargo/bin}
 

@@ -1,8 +1,11 @@
 //! What both sides are given: the same bytes, as elements, as words, as bytes.
 
 use magnetar_cpu::circuit::{assemble_instance_z, witness_row, WITNESS_LAYOUT};
-use magnetar_cpu::{execute, expand_program};
+use magnetar_cpu::execute;
+use magnetar_cpu::expand::RomRow;
+use magnetar_cpu::interp::CycleRecord;
 use magnetar_field::Gf128;
+use words::{record_words, rom_words, words_of};
 
 /// Words of the house listing.
 const LISTING_WORDS: usize = 3499;
@@ -25,7 +28,65 @@ const PROGRAM: [u32; 12] = [
 const INPUT: u64 = 0x0123_4567_89ab_cdef;
 const MOST_CYCLES: usize = 1024;
 
-/// Batches that the circuit accepts, consecutive cycles of one program.
+/// The first cycles of the program, and what is public of it.
+pub struct Run {
+    pub cycles: Vec<(CycleRecord, RomRow)>,
+    pub public: Vec<Gf128>,
+}
+
+impl Run {
+    pub fn new(cycles: usize) -> Run {
+        let trace = execute(&PROGRAM, &[INPUT], MOST_CYCLES);
+        assert!(trace.records.len() >= cycles, "the program is too short");
+        let rom = &trace.program.rows;
+        let cycle = |record: CycleRecord| {
+            let row = rom[record.micro_pc].row.clone();
+            (record, row)
+        };
+        let output = trace.final_state.output;
+        Run {
+            cycles: trace.records.into_iter().take(cycles).map(cycle).collect(),
+            public: vec![Gf128(output.into()), Gf128(INPUT.into())],
+        }
+    }
+
+    /// Record and ROM row of each cycle as words.
+    pub fn words(&self) -> Vec<(Vec<u64>, Vec<u64>)> {
+        let words = |(record, rom): &(CycleRecord, RomRow)| (record_words(record), rom_words(rom));
+        self.cycles.iter().map(words).collect()
+    }
+
+    /// The row of each cycle as the original makes it.
+    pub fn rows(&self) -> Vec<Vec<Gf128>> {
+        let row = |(record, rom): &(CycleRecord, RomRow)| witness_row(record, rom, &self.public);
+        self.cycles.iter().map(row).collect()
+    }
+}
+
+/// Cycles to be put together in batches, consecutive ones of the program.
+pub struct Cycles {
+    /// The rows of each batch.
+    pub rows: Vec<Vec<Vec<Gf128>>>,
+    /// Their columns below 2,048, row after row, two words an element.
+    pub words: Vec<Vec<u64>>,
+    pub public: Vec<Gf128>,
+}
+
+impl Cycles {
+    pub fn new(cpi: usize, batches: usize) -> Cycles {
+        let run = Run::new(cpi * batches);
+        let rows: Vec<_> = run.rows().chunks(cpi).map(<[_]>::to_vec).collect();
+        let lower = |row: &Vec<Gf128>| words_of(&row[..WITNESS_LAYOUT::W_COLS]);
+        let words = |rows: &Vec<Vec<Gf128>>| rows.iter().flat_map(lower).collect();
+        Cycles {
+            words: rows.iter().map(words).collect(),
+            rows,
+            public: run.public,
+        }
+    }
+}
+
+/// Batches that the circuit accepts, made by the original.
 pub struct Accepted {
     pub elements: Vec<Vec<Gf128>>,
     /// The same in memory, two words an element.
@@ -36,14 +97,10 @@ pub struct Accepted {
 
 impl Accepted {
     pub fn new(cpi: usize, batches: usize) -> Accepted {
-        let (rows, public) = witness_rows();
+        let cycles = Cycles::new(cpi, batches);
         let geometry = WITNESS_LAYOUT::geometry(cpi);
-        let elements: Vec<Vec<Gf128>> = rows
-            .chunks(cpi)
-            .take(batches)
-            .map(|rows| assemble_instance_z(&geometry, rows, &public))
-            .collect();
-        assert_eq!(elements.len(), batches, "the program is too short");
+        let batch = |rows: &Vec<Vec<Gf128>>| assemble_instance_z(&geometry, rows, &cycles.public);
+        let elements: Vec<Vec<Gf128>> = cycles.rows.iter().map(batch).collect();
         let words = elements.iter().map(|z| words_of(z)).collect();
         let bytes = elements.iter().map(|z| bytes_of(z)).collect();
         Accepted {
@@ -52,24 +109,6 @@ impl Accepted {
             bytes,
         }
     }
-}
-
-/// The rows of the program's cycles as the original makes them, and what is public of it.
-fn witness_rows() -> (Vec<Vec<Gf128>>, Vec<Gf128>) {
-    let trace = execute(&PROGRAM, &[INPUT], MOST_CYCLES);
-    let output = trace.final_state.output;
-    let public = vec![Gf128(output.into()), Gf128(INPUT.into())];
-    let rom = expand_program(&PROGRAM).rows;
-    let row = |record: &magnetar_cpu::interp::CycleRecord| {
-        witness_row(record, &rom[record.micro_pc].row, &public)
-    };
-    (trace.records.iter().map(row).collect(), public)
-}
-
-fn words_of(z: &[Gf128]) -> Vec<u64> {
-    z.iter()
-        .flat_map(|element| [element.0 as u64, (element.0 >> 64) as u64])
-        .collect()
 }
 
 fn bytes_of(z: &[Gf128]) -> Vec<u8> {

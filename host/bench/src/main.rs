@@ -1,11 +1,13 @@
 //! Times the product beside the original, in one run and on the same inputs.
 //!
-//! It is a benchmark and no test: it fails where the two do not agree that a batch is accepted, and
-//! never because of a time. The exit status is 3 where the processor cannot run the original.
+//! It is a benchmark and no test: it fails where the two do not agree that a batch is accepted, or on
+//! what they make, and never because of a time. The exit status is 3 where the processor cannot run
+//! the original.
 #![forbid(unsafe_code)]
 
 mod inputs;
 mod machine;
+mod makers;
 mod timing;
 
 use std::hint::black_box;
@@ -17,7 +19,7 @@ use magnetar_cpu::circuit::{build_circuit_batched, check_row, CircuitSpec};
 use magnetar_field::Gf128;
 use timing::{both, Best, Work};
 
-/// Cycles in a batch, batches checked in one repetition, repetitions.
+/// Cycles in a batch, batches of one repetition, repetitions.
 const CHECKS: [(usize, usize, usize); 3] = [(1, 16, 2001), (16, 4, 401), (256, 1, 101)];
 
 const MULTIPLICATIONS: usize = 2001;
@@ -51,6 +53,13 @@ fn main() -> ExitCode {
     let (_, batches, repetitions) = CHECKS[0];
     let best = time_boundary(batches, repetitions);
     line("`cellprism_check_row`, 65,536 bytes", "µs a cycle", best);
+    let best = makers::time_row(batches, repetitions);
+    line("`witness_row`", "µs a row", best);
+    for (cpi, batches, repetitions) in CHECKS {
+        let best = makers::time_assembly(cpi, batches, repetitions);
+        let what = format!("`assemble_instance_z`, cpi {cpi}");
+        line(&what, "µs a cycle", best);
+    }
     let best = time_mul(&Operands::dense());
     line("`mul`, dense operands, one word", "ns", best);
     let best = time_mul(&Operands::bits());
@@ -68,14 +77,18 @@ fn main() -> ExitCode {
 const BUFFERS: &str = "\
 buffers: circuit, listing and batches are made in full before the first call, which is not timed.
 Scratch is lent, and not cleared by the caller: every check leaves it zero. The original allocates
-and clears its sums in each call. No cache is flushed: at cpi 1 there are 16 rows in turn (1 MB), at
-cpi 16 four batches (4 MB), at cpi 256 one (16 MB).
+and clears its sums in each call. A row or batch that is made is lent too, the same for every call,
+and the original allocates and clears one in each. No cache is flushed: at cpi 1 there are 16 rows in
+turn (1 MB), at cpi 16 four batches (4 MB), at cpi 256 one (16 MB).
 ";
 
 const NOTES: &str = "
 The original and the product take turns, over batches that both accept. `cellprism_check_row`
-stands beside the original's `check_row` at cpi 1. The product's `mul` crosses the boundary once for
-each word of its result: both sides are timed for one word, in a call that is not inlined.";
+stands beside the original's `check_row` at cpi 1. `witness_row` makes the rows of 16 cycles, whose
+records the product is lent as words; `assemble_instance_z` makes the batches that are checked, of
+which the product is lent the lower columns alone. Both sides make the same, element by element. The
+product's `mul` crosses the boundary once for each word of its result: both sides are timed for one
+word, in a call that is not inlined.";
 
 fn line(what: &str, unit: &str, best: Best) {
     let per_second = if unit == "ns" { 1e9 } else { 1e6 };

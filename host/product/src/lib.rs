@@ -44,6 +44,16 @@ mod c {
             out_len: usize,
         ) -> u64;
         pub fn compare_bit_test(cpi: usize, batch: *const u64, batch_len: usize) -> u64;
+        pub fn compare_reader(
+            listing: *const u32,
+            listing_len: usize,
+            relation: u32,
+            row: usize,
+            next_relation: u32,
+            next_row: usize,
+            out: *mut u64,
+            out_len: usize,
+        ) -> u64;
         pub fn compare_fill(cpi: usize, batch: *mut u64, batch_len: usize) -> u64;
         pub fn compare_first_unmet(
             cpi: usize,
@@ -207,6 +217,25 @@ pub fn apply(
 /// column. Refused: 2^63 + number · 2^32.
 pub fn bit_test(cpi: usize, batch: &[u64]) -> u64 {
     unsafe { c::compare_bit_test(cpi, batch.as_ptr(), batch.len()) }
+}
+
+/// Opens a listing, asks its reader for a row and then for the next, and writes of each its start,
+/// its end and the reader's position afterwards: six words. A row that is refused has 2^63 + number ·
+/// 2^32 for its start, and end 0. Returns 0 for a listing that opens, else 2^63 + number · 2^32 +
+/// place, or 2^63 alone for an `out` of fewer than six words.
+pub fn reader(listing: &[u32], row: Row, next: Row, out: &mut [u64]) -> u64 {
+    unsafe {
+        c::compare_reader(
+            listing.as_ptr(),
+            listing.len(),
+            row.relation,
+            row.row,
+            next.relation,
+            next.row,
+            out.as_mut_ptr(),
+            out.len(),
+        )
+    }
 }
 
 /// Writes the derived columns of a batch and returns 0. Refused: 2^63 + number · 2^32 + place.

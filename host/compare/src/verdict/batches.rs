@@ -1,5 +1,7 @@
 //! Batches to be judged: elements for the original, the same as lent words for the product.
 
+use words::words_of;
+
 use super::lent::Lent;
 use crate::numbers::Numbers;
 use crate::original::Gf128;
@@ -35,19 +37,6 @@ impl Batch {
     pub fn xor(&mut self, batch_column: usize, value: u128) {
         self.put(batch_column, self.z[batch_column].0 ^ value);
     }
-}
-
-/// Two words an element, the low one first.
-pub fn words_of(z: &[Gf128]) -> Vec<u64> {
-    z.iter()
-        .flat_map(|element| [element.0 as u64, (element.0 >> 64) as u64])
-        .collect()
-}
-
-/// The elements of an even number of words.
-pub fn elements_of(words: &[u64]) -> Vec<Gf128> {
-    let element = |pair: &[u64]| Gf128(u128::from(pair[0]) | u128::from(pair[1]) << 64);
-    words.chunks_exact(2).map(element).collect()
 }
 
 /// Where column c of cycle d stands, by document 01.

@@ -14,11 +14,29 @@ pub const MOST_WORDS: usize = 16_384;
 /// Marks there can be: 512 of bin and 32 of fld.
 pub const MARKS: usize = 544;
 
+/// Relation and row.
+pub type Mark = (Relation, usize);
+
 /// A mark and the terms of its three sides.
 pub struct Row {
     pub relation: Relation,
     pub row: usize,
     pub sides: [Vec<Term>; 3],
+}
+
+impl Row {
+    pub fn mark(&self) -> Mark {
+        (self.relation, self.row)
+    }
+
+    /// The mark, then the terms of A, of B and of C.
+    pub fn words(&self) -> Vec<u32> {
+        let mut words = vec![mark_word(self.relation, self.row)];
+        for (side, terms) in (0..).zip(&self.sides) {
+            words.extend(terms.iter().map(|term| term_word(side, *term)));
+        }
+        words
+    }
 }
 
 pub struct Listing {
@@ -40,19 +58,11 @@ impl Listing {
     }
 
     pub fn words(&self) -> Vec<u32> {
-        let mut words = Vec::new();
-        for row in &self.rows {
-            words.push(mark_word(row.relation, row.row));
-            for (side, terms) in (0..).zip(&row.sides) {
-                words.extend(terms.iter().map(|term| term_word(side, *term)));
-            }
-        }
-        words
+        self.rows.iter().flat_map(Row::words).collect()
     }
 
-    pub fn marks(&self) -> Vec<(Relation, usize)> {
-        let mark = |row: &Row| (row.relation, row.row);
-        self.rows.iter().map(mark).collect()
+    pub fn marks(&self) -> Vec<Mark> {
+        self.rows.iter().map(Row::mark).collect()
     }
 
     /// The matrices of a batch: rows padded as the original pads them, columns by its own map.
@@ -116,6 +126,15 @@ fn coefficient_of(value: u128) -> Coefficient {
         "the original's coefficient {value:#x}"
     );
     Coefficient::Power(value.trailing_zeros())
+}
+
+/// A row as it is asked for over the boundary: every relation but 0 is fld.
+pub fn asked_for(numbers: &mut Numbers, (relation, row): Mark) -> product::Row {
+    let relation = match relation {
+        Relation::Bin => 0,
+        Relation::Fld => [1, 2, 1 << 31, u32::MAX][numbers.below(4) as usize],
+    };
+    product::Row { relation, row }
 }
 
 pub fn mark_word(relation: Relation, row: usize) -> u32 {
@@ -187,7 +206,7 @@ fn rows_with(
 }
 
 /// `count` of the marks there can be, in order.
-fn some_marks(numbers: &mut Numbers, count: usize) -> Vec<(Relation, usize)> {
+fn some_marks(numbers: &mut Numbers, count: usize) -> Vec<Mark> {
     let mut marks: Vec<usize> = (0..MARKS).collect();
     // The first `count` of a shuffle.
     for i in 0..count {
@@ -199,7 +218,7 @@ fn some_marks(numbers: &mut Numbers, count: usize) -> Vec<(Relation, usize)> {
     marks.into_iter().map(mark).collect()
 }
 
-fn mark(index: usize) -> (Relation, usize) {
+pub fn mark(index: usize) -> Mark {
     match index.checked_sub(512) {
         None => (Relation::Bin, index),
         Some(row) => (Relation::Fld, row),

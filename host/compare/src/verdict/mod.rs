@@ -1,4 +1,4 @@
-//! The check, the sums of a row and the bit test.
+//! The check, the sums of a row, the bit test and the listing reader.
 
 pub mod answer;
 mod any_listing;
@@ -13,6 +13,7 @@ pub mod judge;
 pub mod lent;
 mod listings;
 pub mod programs;
+mod reader;
 mod refusals;
 mod sums;
 
@@ -25,6 +26,7 @@ pub fn tests() -> Vec<Test> {
     tests.extend(refusals::tests());
     tests.extend(sums::tests());
     tests.extend(bits::tests());
+    tests.extend(reader::tests());
     tests
 }
 

@@ -409,26 +409,30 @@ fn order(tally: &mut Tally) {
     }
 }
 
-/// Good listings with a few words changed, until one of the questions says no.
 fn random_faults(tally: &mut Tally) {
     in_parts(tally, RANDOM_LISTINGS, |tally, part| {
         let mut numbers = Numbers::for_part(65, part as u64);
-        let shape = Shape {
-            marks: 1 + numbers.below(12) as usize,
-            terms_of_a_side: 3,
-        };
-        let mut words = listings::random(&mut numbers, shape).words();
-        let right = loop {
-            let i = numbers.below(words.len() as u64) as usize;
-            words[i] = changed(&mut numbers, words[i]);
-            if let Some(right) = asked(&words) {
-                break right;
-            }
-        };
+        let (words, right) = random_fault(&mut numbers);
         let mut desk = Desk::of(&words, numbers);
         let at = || format!("{words:08x?}");
         refused(tally, 1, &mut desk, &mut zero_batch(1), right, &at);
     });
+}
+
+/// A good listing with a few words changed, until one of the questions says no.
+pub fn random_fault(numbers: &mut Numbers) -> (Vec<u32>, Refusal) {
+    let shape = Shape {
+        marks: 1 + numbers.below(12) as usize,
+        terms_of_a_side: 3,
+    };
+    let mut words = listings::random(numbers, shape).words();
+    loop {
+        let i = numbers.below(words.len() as u64) as usize;
+        words[i] = changed(numbers, words[i]);
+        if let Some(right) = asked(&words) {
+            return (words, right);
+        }
+    }
 }
 
 /// One bit flipped, another kind, another row or column, or any word.

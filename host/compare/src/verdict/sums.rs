@@ -1,12 +1,13 @@
 //! The three sums of a row against the original's `SparseMatrix::apply`.
 
 use product::Row;
+use words::words_of;
 
 use super::answer::{refusal, Refusal, BATCH_LENGTH, CYCLE, NO_ROOM, ROW_SOUGHT, SIZE, TERM_ORDER};
 use super::batches::{self, Batch};
 use super::judge::Judge;
 use super::lent::Lent;
-use super::listings::{self, Listing};
+use super::listings::{self, asked_for, Listing};
 use super::programs::{Program, Sort};
 use crate::columns::SIZES;
 use crate::house::Relation;
@@ -120,7 +121,7 @@ impl Sums {
             Relation::Fld => &self.fld,
         };
         let sums: Vec<Gf128> = sides.iter().map(|side| side[batch_row]).collect();
-        batches::words_of(&sums)
+        words_of(&sums)
     }
 }
 
@@ -165,17 +166,8 @@ impl Call {
         for (i, word) in sums.words(relation, batch_row).into_iter().enumerate() {
             self.out.must_become(i, word);
         }
-        let row = self.row(relation, row);
+        let row = asked_for(&mut self.numbers, (relation, row));
         self.answers(tally, row, cycle, 0);
-    }
-
-    /// Every relation but 0 is fld.
-    fn row(&mut self, relation: Relation, row: usize) -> Row {
-        let relation = match relation {
-            Relation::Bin => 0,
-            Relation::Fld => [1, 2, 1 << 31, u32::MAX][self.numbers.below(4) as usize],
-        };
-        Row { relation, row }
     }
 
     fn refuses(&mut self, tally: &mut Tally, row: Row, cycle: usize, right: Refusal) {
@@ -218,7 +210,7 @@ fn rows_and_cycles_refused(tally: &mut Tally) {
                 (Relation::Bin, row),
                 (Relation::Fld, row - BIN_ROWS + FLD_ROWS),
             ] {
-                let row = call.row(relation, row);
+                let row = asked_for(&mut call.numbers, (relation, row));
                 // The row is asked before the cycle.
                 let cycle = [0, cpi][row.row % 2];
                 call.refuses(tally, row, cycle, refusal(ROW_SOUGHT));
@@ -226,7 +218,7 @@ fn rows_and_cycles_refused(tally: &mut Tally) {
         }
         for cycle in [cpi, cpi + 1, 1 << 32, usize::MAX] {
             for (relation, row) in [(Relation::Bin, 0), (Relation::Fld, FLD_ROWS - 1)] {
-                let row = call.row(relation, row);
+                let row = asked_for(&mut call.numbers, (relation, row));
                 call.refuses(tally, row, cycle, refusal(CYCLE));
             }
         }

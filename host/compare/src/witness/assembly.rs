@@ -1,5 +1,7 @@
 //! Batches that the product assembles against the original's `assemble_instance_z`, every element.
 
+use words::words_of;
+
 use super::records::{any_public, public};
 use crate::columns::SIZES;
 use crate::numbers::Numbers;
@@ -7,7 +9,7 @@ use crate::original::{self, Gf128};
 use crate::parallel::in_parts;
 use crate::report::{test, Tally, Test};
 use crate::verdict::answer::{refusal, PUBLIC_LENGTH};
-use crate::verdict::batches::{words_of, COLUMNS, WITNESS_COLUMNS};
+use crate::verdict::batches::{COLUMNS, WITNESS_COLUMNS};
 use crate::verdict::lent::Lent;
 
 const BATCHES: [usize; 9] = [400, 200, 100, 50, 30, 16, 8, 6, 4];

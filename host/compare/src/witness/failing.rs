@@ -3,9 +3,10 @@
 
 use std::sync::atomic::{AtomicUsize, Ordering};
 
+use words::{record_words, rom_words, words_of};
+
 use super::any_program::AnyProgram;
 use super::maker::ROW_WORDS;
-use super::records::{record_words, rom_words};
 use crate::house::Relation;
 use crate::listing::BIN_ROWS;
 use crate::numbers::Numbers;
@@ -13,7 +14,6 @@ use crate::original::{self, CircuitSpec, CycleRecord, Gf128, RomRow, VirtualKind
 use crate::parallel::in_parts;
 use crate::report::{test, Tally, Test};
 use crate::verdict::answer::Verdict;
-use crate::verdict::batches::words_of;
 use crate::verdict::instructions as isa;
 
 const PROGRAMS: usize = 1_000;

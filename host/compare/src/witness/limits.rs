@@ -2,17 +2,18 @@
 //! which question is answered first where several lengths are wrong; and that a refusal changes
 //! nothing.
 
+use words::{elements_of, record_of, rom_of, words_of, RECORD_WORDS, ROM_WORDS};
+
 use super::assembly::{any_cycles, most_public, right_batch};
 use super::maker::ROW_WORDS;
-use super::records::{any_record, any_rom, public, record_of, rom_of};
-use super::records::{MOST_PUBLIC, RECORD_WORDS, ROM_WORDS};
+use super::records::{any_record, any_rom, public, MOST_PUBLIC};
 use crate::columns::SIZES;
 use crate::numbers::Numbers;
 use crate::original;
 use crate::parallel::in_parts;
 use crate::report::{test, Tally, Test};
 use crate::verdict::answer::{refusal, BATCH_LENGTH, CYCLES_LENGTH, PUBLIC_LENGTH, SIZE};
-use crate::verdict::batches::{elements_of, words_of, COLUMNS, WITNESS_COLUMNS};
+use crate::verdict::batches::{COLUMNS, WITNESS_COLUMNS};
 use crate::verdict::lent::Lent;
 
 /// Lengths of a slice that has a right one; the right one is the first.

@@ -1,9 +1,10 @@
 //! The product's row maker between guard words.
 
-use super::records::{record_of, rom_of};
+use words::{record_of, rom_of, words_of};
+
 use crate::original::{self, Gf128};
 use crate::report::Tally;
-use crate::verdict::batches::{words_of, COLUMNS};
+use crate::verdict::batches::COLUMNS;
 use crate::verdict::lent::Lent;
 
 /// Words of a row.

@@ -1,16 +1,16 @@
 //! A made row is bits below the one column, and the filler changes nothing in it where halt and
 //! taken of the record are what the filler writes.
 
+use words::{elements_of, record_of, record_words, rom_of, rom_words, words_of};
+
 use super::any_program::AnyProgram;
 use super::maker::ROW_WORDS;
-use super::records::{any_public, any_record, any_rom, record_of, record_words};
-use super::records::{rom_of, rom_words, MOST_PUBLIC};
+use super::records::{any_public, any_record, any_rom, MOST_PUBLIC};
 use crate::filler::derived::derived;
 use crate::numbers::Numbers;
 use crate::original;
 use crate::parallel::in_parts;
 use crate::report::{test, Tally, Test};
-use crate::verdict::batches::{elements_of, words_of};
 
 const RANDOM: usize = 20_000;
 const PROGRAMS: usize = 300;

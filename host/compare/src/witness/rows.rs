@@ -1,9 +1,11 @@
 //! Rows that the product makes against the original's `witness_row`, every element: of random
 //! records, and of the records that the original's interpreter makes.
 
+use words::{record_words, rom_words};
+
 use super::any_program::AnyProgram;
 use super::maker::{Maker, OF_A_ROW};
-use super::records::{any_public, any_record, any_rom, record_words, rom_words, MOST_PUBLIC};
+use super::records::{any_public, any_record, any_rom, MOST_PUBLIC};
 use crate::numbers::Numbers;
 use crate::parallel::in_parts;
 use crate::report::{test, Tally, Test};

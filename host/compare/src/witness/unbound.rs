@@ -6,13 +6,15 @@
 //! given columns. Each row stays accepted when all the rest is put as the original's interpreter
 //! has it.
 
+use words::elements_of;
+
 use super::step::Step;
 use crate::filler::derived::given;
 use crate::house::Relation;
 use crate::original;
 use crate::report::{test, Tally, Test};
 use crate::verdict::answer::Verdict;
-use crate::verdict::batches::{batch_column, elements_of, Batch, ONE_COLUMN};
+use crate::verdict::batches::{batch_column, Batch, ONE_COLUMN};
 
 /// Comparisons of a row: by the product's check, by its conditions, by the original, and that RV64I
 /// is broken.

@@ -5,6 +5,7 @@ use magnetar_cpu::execute;
 use magnetar_cpu::expand::{RomRow, VirtualKind};
 use magnetar_cpu::interp::CycleRecord;
 use magnetar_field::Gf128;
+use words::{record_words, rom_words, words_of};
 
 use crate::{put, set_up, Numbers, INPUT, PROGRAM, REFUSED};
 
@@ -45,7 +46,7 @@ pub fn rows() {
 fn made_row(record: &CycleRecord, rom: &RomRow, public: &[Gf128]) {
     set_up(&witness_row(record, rom, public), 1);
     println!("Z");
-    lend(0, &lent_words(record, rom));
+    lend(0, &[record_words(record), rom_words(rom)].concat());
     lend(ROW_PUBLIC, &words_of(public));
     println!("v {:x} {ROW_WORDS:x} 0", 2 * public.len());
 }
@@ -162,65 +163,6 @@ fn lend(at: usize, words: &[u64]) {
         }
         println!();
     }
-}
-
-fn words_of(elements: &[Gf128]) -> Vec<u64> {
-    let words = |element: &Gf128| [element.0 as u64, (element.0 >> 64) as u64];
-    elements.iter().flat_map(words).collect()
-}
-
-/// The record's fields in their order, then kind, stage and the other fields of the ROM row.
-fn lent_words(record: &CycleRecord, rom: &RomRow) -> Vec<u64> {
-    let (kind, stage) = match rom.kind {
-        VirtualKind::Alu => (0, 0),
-        VirtualKind::ShiftStage { stage } => (1, stage as u64),
-        VirtualKind::Load => (2, 0),
-        VirtualKind::Store => (3, 0),
-        VirtualKind::Branch => (4, 0),
-        VirtualKind::Upper => (5, 0),
-        VirtualKind::Jump => (6, 0),
-        VirtualKind::System => (7, 0),
-    };
-    vec![
-        record.micro_pc as u64,
-        record.rs1_val,
-        record.rs2_val,
-        record.rd_val,
-        record.rd_old,
-        record.we.into(),
-        record.rd as u64,
-        record.ram_addr as u64,
-        record.ram_word,
-        record.ram_old,
-        record.ram_new,
-        record.byte_offset.into(),
-        record.store_width.into(),
-        record.store_src,
-        record.branch_taken.into(),
-        record.next_pc as u64,
-        record.alu_a,
-        record.alu_b,
-        record.alu_out,
-        record.shift_out,
-        record.is_arith.into(),
-        record.is_logic.into(),
-        record.is_sub_op.into(),
-        record.is_shift.into(),
-        record.is_load.into(),
-        record.is_store.into(),
-        record.ld_byte.into(),
-        record.ld_half.into(),
-        record.ld_word.into(),
-        record.halted_latch.into(),
-        kind,
-        stage,
-        rom.rd as u64,
-        rom.rs1 as u64,
-        rom.rs2 as u64,
-        rom.funct3.into(),
-        rom.imm,
-        rom.raw.into(),
-    ]
 }
 
 fn any_record(numbers: &mut Numbers) -> CycleRecord {
