@@ -4,7 +4,7 @@
 --     Row             a column of it, and the call: `rowCalled`
 --     Assembly        the batch of cpi cycles, and the call: `assemblyCalled`
 --     Reading         the branch reading, and with it P10 of the bench sheet
--- and the theorems are `all-bits` and `filling-keeps` of MadeRow, `yes-assembled` of Assembled, `taken-column` of TakenColumn. Written is the law
+-- and the theorems are `all-bits` of MadeRow, `filling-keeps` of Refilled, `yes-assembled` of Assembled, `taken-column` of TakenColumn. Written is the law
 -- of a loop that writes a slice, Halves what a row and a batch hold by element; Packed, Groups, RowWords and Carried give the made row by words of 64 columns.
 pub mod Written
 pub mod Upper

@@ -1,5 +1,7 @@
 -- The row that a cycle's record and its ROM row make: one line a field, with its first column, its width and its value, of which it takes the low
 -- bits. A group is a word of 64 columns; a column that no line has is 0. Halt and taken are the record's.
+-- Of step's words, `hot x` has bit x alone, `pair x` bits x and x + 4 modulo 8, and `next` is the lane after; `carryWord a b s` has the carries
+-- into each bit of a + b + s, `runWord w` the bits with none of w's set at or below them, and `opcodeRun op k` those where op is like k so far.
 -- Assumes nothing.
 use mathlib.Core.Bool.{Bool, true, not, cond, _&&_}
 use mathlib.Core.List.{List, [], _∷_}
