@@ -1,85 +1,16 @@
 // Does the product make the row or batch that is set up, and read the branch as a vector says? The words lent to it were put line by line.
-use layout::Asked;
-use witness::branch::BranchReading;
-use witness::records::CycleRecord;
-use witness::records::RomRow;
-use witness::records::VirtualKind;
+use compare::makers::compare_assemble;
+use compare::makers::compare_read_branch;
+use compare::makers::compare_witness_row;
 ghost use Prim.Native.Nat.{_≤_};
 ghost use lib.ListN.{length};
 
-fn record_of(words: &[u64]) -> CycleRecord
-    requires { ⌜ 30 ≤ length (now words) ⌝ }
-{
-    CycleRecord {
-        micro_pc: words[0] as usize,
-        rs1_val: words[1],
-        rs2_val: words[2],
-        rd_val: words[3],
-        rd_old: words[4],
-        we: words[5] % 2 == 1,
-        rd: words[6] as usize,
-        ram_addr: words[7] as usize,
-        ram_word: words[8],
-        ram_old: words[9],
-        ram_new: words[10],
-        byte_offset: (words[11] % 256) as u8,
-        store_width: (words[12] % 256) as u8,
-        store_src: words[13],
-        branch_taken: words[14] % 2 == 1,
-        next_pc: words[15] as usize,
-        alu_a: words[16],
-        alu_b: words[17],
-        alu_out: words[18],
-        shift_out: words[19],
-        is_arith: words[20] % 2 == 1,
-        is_logic: words[21] % 2 == 1,
-        is_sub_op: words[22] % 2 == 1,
-        is_shift: words[23] % 2 == 1,
-        is_load: words[24] % 2 == 1,
-        is_store: words[25] % 2 == 1,
-        ld_byte: words[26] % 2 == 1,
-        ld_half: words[27] % 2 == 1,
-        ld_word: words[28] % 2 == 1,
-        halted_latch: words[29] % 2 == 1,
+// A refusal stands as 2^63 and its number; the answer has the place below it, which is 0 for the questions of makers.
+fn asked_is(answer: u64, n: u64) -> bool {
+    if n == 0 {
+        return answer == 0;
     }
-}
-
-fn kind_of(kind: u64, stage: u64) -> VirtualKind {
-    match kind % 8 {
-        0 => VirtualKind::Alu,
-        1 => VirtualKind::ShiftStage {
-            stage: stage as usize,
-        },
-        2 => VirtualKind::Load,
-        3 => VirtualKind::Store,
-        4 => VirtualKind::Branch,
-        5 => VirtualKind::Upper,
-        6 => VirtualKind::Jump,
-        _ => VirtualKind::System,
-    }
-}
-
-// The ROM row stands behind the record.
-fn rom_row_of(words: &[u64]) -> RomRow
-    requires { ⌜ 38 ≤ length (now words) ⌝ }
-{
-    RomRow {
-        kind: kind_of(words[30], words[31]),
-        rd: words[32] as usize,
-        rs1: words[33] as usize,
-        rs2: words[34] as usize,
-        funct3: (words[35] % 0x100000000) as u32,
-        imm: words[36],
-        raw: (words[37] % 0x100000000) as u32,
-    }
-}
-
-// A refusal stands as 2^63 and its number.
-fn asked_is(answer: Asked, n: u64) -> bool {
-    match answer {
-        Asked::Yes => n == 0,
-        Asked::No(r) => n == 0x8000000000000000 + r.number as u64,
-    }
+    answer == 0x8000000000000000 + n % 256 * 0x100000000
 }
 
 fn fill_with(words: &mut [u64], word: u64) {
@@ -123,14 +54,12 @@ fn left_right(n: u64, made: &[u64], right: &[u64]) -> bool {
     all_are(made, 2)
 }
 
-fn make_row(lent: &[u64], public: usize, row: &mut [u64]) -> Asked
-    requires { ⌜ (64 ≤ length (now lent)) × (public ≤ length (now lent)) ⌝ }
+// The ROM row stands behind the record.
+fn make_row(lent: &[u64], public: usize, row: &mut [u64]) -> u64
+    requires { ⌜ (64 ≤ public) × (public ≤ length (now lent)) ⌝ }
 {
     let from: usize = 64;
-    if public < from {
-        return witness::row::witness_row(record_of(lent), rom_row_of(lent), &lent[..0], row);
-    }
-    witness::row::witness_row(record_of(lent), rom_row_of(lent), &lent[from..public], row)
+    compare_witness_row(&lent[..30], &lent[30..38], &lent[from..public], row)
 }
 
 // n: public words, words of the row, the answer. The record, the ROM row and from word 64 on the public words are lent.
@@ -152,11 +81,11 @@ pub fn row(n: [u64; 8], lent: &[u64], made: &mut [u64], right: &[u64]) -> bool {
     left_right(n[2], part, right)
 }
 
-fn make_batch(cpi: usize, lent: &[u64], cycles: usize, public: usize, batch: &mut [u64]) -> Asked
+fn make_batch(cpi: usize, lent: &[u64], cycles: usize, public: usize, batch: &mut [u64]) -> u64
     requires { ⌜ (cycles ≤ 16384) × (16384 ≤ public) × (public ≤ length (now lent)) ⌝ }
 {
     let from: usize = 16384;
-    witness::assembly::assemble_instance_z(cpi, &lent[..cycles], &lent[from..public], batch)
+    compare_assemble(cpi, &lent[..cycles], &lent[from..public], batch)
 }
 
 // n: cpi, words of the cycles, public words, words of the batch, the answer. The cycles and from word 16,384 on the public words are lent.
@@ -183,11 +112,7 @@ pub fn batch(n: [u64; 8], lent: &[u64], made: &mut [u64], right: &[u64]) -> bool
 pub fn branch(n: [u64; 8]) -> bool {
     let opcode = (n[0] % 0x100000000) as u32;
     let funct3 = (n[1] % 0x100000000) as u32;
-    match witness::branch::read_branch(opcode, funct3, n[2], n[3]) {
-        BranchReading::NoBranch => n[4] == 0,
-        BranchReading::Taken => n[4] == 1,
-        BranchReading::NotTaken => n[4] == 2,
-    }
+    compare_read_branch(opcode, funct3, n[2], n[3]) == n[4]
 }
 
 fn put_one(lent: &mut [u64], at: usize, word: u64) {

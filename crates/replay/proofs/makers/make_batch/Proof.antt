@@ -7,23 +7,23 @@ use borrow.Author.Needs.{needs}
 use Rattle.replay.proofs.makers.make_batch.Statement.{statement}
 use Rattle.replay.proofs.makers.make_batch.Tie as tie
 
-slice-aggregate-assemble-instance-z : tie.Need-slice-aggregate-assemble-instance-z
-slice-aggregate-assemble-instance-z c = sym (length-take-le _ _ (omega arith))
+slice-aggregate-compare-assemble : tie.Need-slice-aggregate-compare-assemble
+slice-aggregate-compare-assemble c = sym (length-take-le _ _ (omega arith))
 
-mul-assemble-instance-z : tie.Need-mul-assemble-instance-z
-mul-assemble-instance-z c = search needs
+mul-compare-assemble : tie.Need-mul-compare-assemble
+mul-compare-assemble c = search needs
 
-sub-assemble-instance-z : tie.Need-sub-assemble-instance-z
-sub-assemble-instance-z c = search needs
+sub-compare-assemble : tie.Need-sub-compare-assemble
+sub-compare-assemble c = search needs
 
-part-assemble-instance-z-start : tie.Need-part-assemble-instance-z-start
-part-assemble-instance-z-start c = search needs
+part-compare-assemble-start : tie.Need-part-compare-assemble-start
+part-compare-assemble-start c = search needs
 
-part-assemble-instance-z-end : tie.Need-part-assemble-instance-z-end
-part-assemble-instance-z-end c = search needs
+part-compare-assemble-end : tie.Need-part-compare-assemble-end
+part-compare-assemble-end c = search needs
 
-assemble-instance-z-requires : tie.Need-assemble-instance-z-requires
-assemble-instance-z-requires c κs = search needs
+compare-assemble-requires : tie.Need-compare-assemble-requires
+compare-assemble-requires c κs = search needs
 
 same-length : tie.Need-same-length
 same-length c = search needs
@@ -35,11 +35,11 @@ pub make-batch-spec : {M : Type 1} → statement M
 make-batch-spec =
     tie.close
     (tie.spec
-    slice-aggregate-assemble-instance-z
-    mul-assemble-instance-z
-    sub-assemble-instance-z
-    part-assemble-instance-z-start
-    part-assemble-instance-z-end
-    assemble-instance-z-requires
+    slice-aggregate-compare-assemble
+    mul-compare-assemble
+    sub-compare-assemble
+    part-compare-assemble-start
+    part-compare-assemble-end
+    compare-assemble-requires
     same-length
     returns)
