@@ -1,8 +1,8 @@
 -- What is left of the check at each of its loops. The verdict from there on, with the count so far, is the whole verdict.
 -- Assumes nothing.
-use mathlib.Core.Path.{_≡_, refl, sym, ap, _∙_}
+use mathlib.Core.Path.{_≡_, sym, ap, _∙_}
 use mathlib.Core.Bool.{Bool, true, false, cond}
-use mathlib.Core.List.{List, [], _∷_, _++_, map, append-assoc, append-nil}
+use mathlib.Core.List.{List, [], _∷_, _++_, map, append-assoc}
 use Prim.Native.Nat.{ℕ, _+_, _-_, _<_, _≤_}
 use native.Mathlib.Nat.{sub-zero}
 use native.Mathlib.Numerals.{add-one}
@@ -37,13 +37,6 @@ of-parts P bin fld p q r = by-test (eqb r 0)
 -- the row whose mark stands at an index
 abbrev pub rowAt : List ℕ → ℕ → Row
 rowAt part at = rowOf (getD part at 0) (drop (at + 1) part)
-
--- the rows from there on: that row, and those behind it
-pub rows-here : (part : List ℕ) (at end : ℕ) → at < length part → isMark (getD part at 0) ≡ true → RowEnds part (at + 1) end
-    → rowsOf (drop at part) ≡ rowAt part at ∷ rowsOf (drop end part)
-rows-here part at end h m e =
-    ap rowsOf (drop-cons part at 0 h) ∙ ap (λ n. rowsOf (getD part at 0 ∷ drop n part)) (sym (add-one at))
-    ∙ rows-mark (getD part at 0) (drop (at + 1) part) m ∙ ap (λ rs. rowAt part at ∷ rs) (sym (e .rows-left))
 
 -- ---- what is left
 
@@ -85,7 +78,10 @@ module _ (cpi : ℕ) (bin fld : List ℕ) where
   pub row-here : (part : List ℕ) (r d at end : ℕ) → at < length part → isMark (getD part at 0) ≡ true → RowEnds part (at + 1) end
       → leftRows part r d at ≡ inCycle d (rowAt part at) ∷ leftRows part r d end
   unfolding leftRows
-  row-here part r d at end h m e = ap (λ rs. map (inCycle d) rs ++ leftCycles r (d + 1)) (rows-here part at end h m e)
+  row-here part r d at end h m e =
+      ap (λ rs. map (inCycle d) rs ++ leftCycles r (d + 1))
+      (ap rowsOf (drop-cons part at 0 h) ∙ ap (λ n. rowsOf (getD part at 0 ∷ drop n part)) (sym (add-one at))
+      ∙ rows-mark (getD part at 0) (drop (at + 1) part) m ∙ ap (λ rs. rowAt part at ∷ rs) (sym (e .rows-left)))
 
 -- ---- the verdict from there on
 

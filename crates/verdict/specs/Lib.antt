@@ -9,7 +9,6 @@ pub mod Order
 pub mod Split
 pub mod Left
 pub mod Verdicts
-pub mod Ahead
 pub mod Depends
 pub mod OverBits
 pub mod Sheet

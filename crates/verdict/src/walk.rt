@@ -3,10 +3,9 @@ use crate::Verdict;
 use crate::rows::test_row;
 use circuit::Relation;
 ghost use mathlib.Core.Path.{_≡_};
-ghost use mathlib.Core.Bool.{cond, true, _&&_};
+ghost use mathlib.Core.Bool.{true};
 ghost use Prim.Native.Nat.{_+_, _*_, _<_, _≤_};
-ghost use lib.Dec.{eqb};
-ghost use lib.ListN.{length, drop};
+ghost use lib.ListN.{length};
 ghost use Rattle.layout.specs.declared.Asked.the-variants.{Yes};
 ghost use Rattle.layout.specs.Batch.{allowed};
 ghost use Rattle.circuit.specs.Found.{until};
@@ -17,7 +16,6 @@ ghost use Rattle.verdict.specs.Runs.{sorted};
 ghost use Rattle.verdict.specs.Check.{met, run, judged};
 ghost use Rattle.verdict.specs.Order.{isFldMark};
 ghost use Rattle.verdict.specs.Left.{partAt, allParts};
-ghost use Rattle.verdict.specs.Ahead.{RowAhead, PartAhead};
 
 fn is_fld_mark(w: u32) -> bool
     ensures { λ r. ⌜ r ≡ isFldMark w ⌝ }
@@ -55,49 +53,6 @@ fn batch_row(relation: Relation, cycle: usize, row: usize) -> usize
     circuit::search::rows_a_cycle(relation) * cycle + row
 }
 
-// Tests one row in eight cycles from the given one on: where it ends, or 0 where it does not hold in all of them.
-fn row_ahead(cpi: usize, part: &[u32], from: usize, batch: &[u64], cycle: usize) -> usize
-    requires { ⌜ (cpi ≤ 256) × ((cycle + 8 ≤ cpi) × ((length (now batch) ≡ 8192 * cpi) × ((from ≤ length (now part)) × (sorted 0 (drop from (now part)) ≡ true)))) ⌝ }
-    ensures { λ r. ⌜ (0 < r → RowAhead cpi (now (batch .entry)) cycle 8 (now (part .entry)) from r) ⌝ }
-{
-    let mut end: usize = 0;
-    let mut ahead: usize = 0;
-    while ahead < 8 {
-        let row = test_row(cpi, part, from, batch, cycle + ahead);
-        if !row.holds {
-            return 0;
-        }
-        end = row.end;
-        ahead = ahead + 1;
-    }
-    end
-}
-
-// How many rows the part has, where each of them holds in eight cycles from the given one on; 0 where one does not, or where so many are
-// not left. At large batch sizes each column of a cycle stands on a page of its own, which eight at a time visit once and not eight times.
-fn rows_ahead(cpi: usize, part: &[u32], batch: &[u64], cycle: usize) -> usize
-    requires { ⌜ (cpi ≤ 256) × ((length (now batch) ≡ 8192 * cpi) × ((length (now part) ≤ 16384) × (sorted 3 (now part) ≡ true))) ⌝ }
-    ensures { λ r. ⌜ (0 < r → PartAhead cpi (now (batch .entry)) cycle 8 (now (part .entry)) r) ⌝ }
-{
-    if cpi < 8 {
-        return 0;
-    }
-    if cpi - 8 < cycle {
-        return 0;
-    }
-    let mut rows: usize = 0;
-    let mut at: usize = 0;
-    while at < part.len() {
-        let end = row_ahead(cpi, part, at + 1, batch, cycle);
-        if end == 0 {
-            return 0;
-        }
-        rows = rows + 1;
-        at = end;
-    }
-    rows
-}
-
 // Left by its label at the first row that does not hold.
 fn walk_parts<'a>(cpi: usize, bin: &'a [u32], fld: &'a [u32], batch: &[u64]) -> Verdict
     requires { ⌜ (cpi ≤ 256) × ((length (now batch) ≡ 8192 * cpi) × ((length (now bin) ≤ 16384) × ((length (now fld) ≤ 16384) × ((sorted 3 (now bin) ≡ true) × (sorted 3 (now fld) ≡ true))))) ⌝ }
@@ -112,28 +67,22 @@ fn walk_parts<'a>(cpi: usize, bin: &'a [u32], fld: &'a [u32], batch: &[u64]) -> 
         let mut cycle: usize = 0;
         'cycles: while cycle < cpi {
             let part = part_at(bin, fld, relation);
-            let ahead = rows_ahead(cpi, part, batch, cycle);
-            if 0 < ahead {
-                tested = tested + 8 * ahead;
-                cycle = cycle + 8;
-            } else {
-                let mut at: usize = 0;
-                'rows: while at < part.len() {
-                    let mark = part[at];
-                    let row = test_row(cpi, part, at + 1, batch, cycle);
-                    tested = tested + 1;
-                    if !row.holds {
-                        let kind = circuit::words::relation_of(mark);
-                        break 'relations Verdict::Failed {
-                            relation: kind,
-                            row: batch_row(kind, cycle, (mark % 512) as usize),
-                            rows: tested,
-                        };
-                    }
-                    at = row.end;
+            let mut at: usize = 0;
+            'rows: while at < part.len() {
+                let mark = part[at];
+                let row = test_row(cpi, part, at + 1, batch, cycle);
+                tested = tested + 1;
+                if !row.holds {
+                    let kind = circuit::words::relation_of(mark);
+                    break 'relations Verdict::Failed {
+                        relation: kind,
+                        row: batch_row(kind, cycle, (mark % 512) as usize),
+                        rows: tested,
+                    };
                 }
-                cycle = cycle + 1;
+                at = row.end;
             }
+            cycle = cycle + 1;
         }
         relation = relation + 1;
     }

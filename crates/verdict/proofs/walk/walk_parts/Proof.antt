@@ -1,31 +1,27 @@
 -- `verdict::walk::walk_parts` meets its contract: at each loop the verdict on what is left, with the count so far, is the whole verdict.
 -- Assumes nothing.
-use mathlib.Core.Path.{_≡_, refl, sym, ap, subst, _∙_}
+use mathlib.Core.Path.{_≡_, refl, sym, subst, _∙_}
 use mathlib.Core.Bool.{true}
-use mathlib.Core.List.{List}
-use Prim.Native.Nat.{ℕ, _+_, _-_, _*_, _≤_, _<_}
+use Prim.Native.Nat.{_+_, _-_, _*_, _≤_}
 use native.Mathlib.Omega.{arith}
 use borrow.Author.Needs.{needs}
 use borrow.Author.Tests.{not-true, not-false}
 use denote.Ref.{now}
-use lib.ListN.{length, getD, drop}
-use Rattle.circuit.specs.Words.{isMark}
-use Rattle.circuit.specs.Batched.{batchRow}
+use lib.ListN.{length, drop}
 use Rattle.verdict.specs.Row.{cycleOf}
 use Rattle.verdict.specs.Runs.{sorted, at-mark}
 use Rattle.verdict.specs.Check.{met, run}
-use Rattle.verdict.specs.Left.{of-parts, partAt, allParts, leftCycles, leftRows, relation-step, relation-end, cycle-step, cycle-end, row-end, row-here, along, run-on, run-stop}
-use Rattle.verdict.specs.Ahead.{behind-part}
+use Rattle.verdict.specs.Left.{of-parts, allParts, leftCycles, leftRows, relation-step, relation-end, cycle-step, cycle-end, row-end, row-here, along, run-on, run-stop}
 use Rattle.verdict.proofs.walk.walk_parts.Statement.{statement}
 use Rattle.verdict.proofs.walk.walk_parts.Tie as tie
 
 abbrev Inv-rows : tie.InvT-rows
-Inv-rows cpi bin fld batch tested₀ relation cycle part ahead at₀ tested at =
+Inv-rows cpi bin fld batch tested₀ relation cycle part at₀ tested at =
     (at ≤ length part) × (length part ≤ 16384) × (tested ≤ relation * 4194304 + cycle * 16384 + at) × (sorted 3 (drop at part) ≡ true)
     × (run (met (cycleOf cpi batch)) tested (leftRows cpi bin fld part relation cycle at) ≡ run (met (cycleOf cpi batch)) 0 (allParts cpi bin fld 0))
 
 abbrev μ-rows : tie.MeasureT-rows
-μ-rows cpi bin fld batch tested₀ relation cycle part ahead at₀ tested at = length part - at
+μ-rows cpi bin fld batch tested₀ relation cycle part at₀ tested at = length part - at
 
 abbrev Inv-cycles : tie.InvT-cycles
 Inv-cycles cpi bin fld batch tested₀ relation cycle₀ tested cycle =
@@ -43,15 +39,6 @@ Inv-relations cpi bin fld batch tested₀ relation₀ tested relation =
 abbrev μ-relations : tie.MeasureT-relations
 μ-relations cpi bin fld batch tested₀ relation₀ tested relation = 2 - relation
 
--- a part is as short, and as much in order, as both are
-of-part : (bin fld part : List ℕ)
-    → (length bin ≤ 16384) × ((length fld ≤ 16384) × ((sorted 3 bin ≡ true) × (sorted 3 fld ≡ true)))
-    → (r : ℕ) → part ≡ partAt bin fld r → (length part ≤ 16384) × (sorted 3 part ≡ true)
-of-part bin fld part p r e = (
-  subst (λ part. length part ≤ 16384) (sym e) (of-parts (λ part. length part ≤ 16384) bin fld (p .0) (p .1 .0) r),
-  subst (λ part. sorted 3 part ≡ true) (sym e) (of-parts (λ part. sorted 3 part ≡ true) bin fld (p .1 .1 .0) (p .1 .1 .1) r),
-)
-
 relations-holds :
     tie.Need-relations-holds Inv-rows μ-rows Inv-cycles μ-cycles Inv-relations μ-relations
 relations-holds c = (search needs, search needs, refl)
@@ -64,48 +51,16 @@ part-at-requires :
     tie.Need-part-at-requires Inv-rows μ-rows Inv-cycles μ-cycles Inv-relations μ-relations
 part-at-requires c κs = search needs
 
-rows-ahead-requires :
-    tie.Need-rows-ahead-requires Inv-rows μ-rows Inv-cycles μ-cycles Inv-relations μ-relations
-rows-ahead-requires c κs =
-    let p = c .before .before .before .before .before .before .before .before .pre in
-    let r = c .before .before .before .before .relations .relation in
-    (search needs, (search needs, of-part _ _ _ (p .1 .1) r (c .part-at .ensures)))
-
-mul-tested :
-    tie.Need-mul-tested Inv-rows μ-rows Inv-cycles μ-cycles Inv-relations μ-relations
-mul-tested c = let f = c .before .rows-ahead .ensures (c .if2 .taken) in omega (arith, f .few)
-
-add-tested :
-    tie.Need-add-tested Inv-rows μ-rows Inv-cycles μ-cycles Inv-relations μ-relations
-add-tested c = let f = c .before .rows-ahead .ensures (c .if2 .taken) in omega (arith, f .few, f .inside)
-
-add-cycle :
-    tie.Need-add-cycle Inv-rows μ-rows Inv-cycles μ-cycles Inv-relations μ-relations
-add-cycle c = search needs
-
-cycles-less :
-    tie.Need-cycles-less Inv-rows μ-rows Inv-cycles μ-cycles Inv-relations μ-relations
-cycles-less c = let f = c .before .rows-ahead .ensures (c .if2 .taken) in omega (arith, f .inside)
-
-cycles-again :
-    tie.Need-cycles-again Inv-rows μ-rows Inv-cycles μ-cycles Inv-relations μ-relations
-cycles-again c =
-    let f = c .before .rows-ahead .ensures (c .if2 .taken) in let y = c .before .before .before .before .cycles in (
-      f .inside,
-      omega (arith, f .few),
-      behind-part _ _ _ _ _ _ (c .before .before .part-at .ensures) _ (y .cycle) (y .tested) 8 _ f (y .inv .2),
-    )
-
 rows-holds :
     tie.Need-rows-holds Inv-rows μ-rows Inv-cycles μ-cycles Inv-relations μ-relations
 rows-holds c =
-    let a = c .before .before in let e = a .part-at .ensures in let p = a .before .before .before .before .before .before .before .before .pre in
-    let o = of-part _ _ _ (p .1 .1) (a .before .before .before .before .relations .relation) e in (
+    let e = c .part-at .ensures in let p = c .before .before .before .before .before .before .before .before .pre in
+    let r = c .before .before .before .before .relations .relation in (
       search needs,
-      o .0,
+      subst (λ part. length part ≤ 16384) (sym e) (of-parts (λ part. length part ≤ 16384) _ _ (p .1 .1 .0) (p .1 .1 .1 .0) r),
       search needs,
-      o .1,
-      along _ _ (cycle-step _ _ _ _ _ (a .before .cycles-test .taken) _ e) (a .before .before .cycles .inv .2),
+      subst (λ part. sorted 3 part ≡ true) (sym e) (of-parts (λ part. sorted 3 part ≡ true) _ _ (p .1 .1 .1 .1 .0) (p .1 .1 .1 .1 .1) r),
+      along _ _ (cycle-step _ _ _ _ _ (omega arith) _ e) (c .before .before .cycles .inv .2),
     )
 
 mul-mark :
@@ -126,9 +81,9 @@ test-row-requires c κs =
     let t = c .before .before .rows in
     (search needs, (search needs, at-mark _ (t .at) (c .before .rows-test .taken) (t .inv .3) .1))
 
-add-tested-2 :
-    tie.Need-add-tested-2 Inv-rows μ-rows Inv-cycles μ-cycles Inv-relations μ-relations
-add-tested-2 c = search needs
+add-tested :
+    tie.Need-add-tested Inv-rows μ-rows Inv-cycles μ-cycles Inv-relations μ-relations
+add-tested c = search needs
 
 relation-of-requires :
     tie.Need-relation-of-requires Inv-rows μ-rows Inv-cycles μ-cycles Inv-relations μ-relations
@@ -156,20 +111,20 @@ rows-again c =
       omega (arith, r .ensures .ends .onward),
       r .ensures .ends .in-rows,
       run-on _ _ (row-here _ _ _ _ _ _ (t .at) _ (b .rows-test .taken) (m .0) (r .ensures .ends)) (t .inv .4)
-          (sym (r .ensures .holds-is) ∙ not-false _ (c .if3 .left)),
+          (sym (r .ensures .holds-is) ∙ not-false _ (c .if2 .left)),
     )
 
-add-cycle-2 :
-    tie.Need-add-cycle-2 Inv-rows μ-rows Inv-cycles μ-cycles Inv-relations μ-relations
-add-cycle-2 c = search needs
+add-cycle :
+    tie.Need-add-cycle Inv-rows μ-rows Inv-cycles μ-cycles Inv-relations μ-relations
+add-cycle c = search needs
 
-cycles-less-2 :
-    tie.Need-cycles-less-2 Inv-rows μ-rows Inv-cycles μ-cycles Inv-relations μ-relations
-cycles-less-2 c = search needs
+cycles-less :
+    tie.Need-cycles-less Inv-rows μ-rows Inv-cycles μ-cycles Inv-relations μ-relations
+cycles-less c = search needs
 
-cycles-again-2 :
-    tie.Need-cycles-again-2 Inv-rows μ-rows Inv-cycles μ-cycles Inv-relations μ-relations
-cycles-again-2 c = (search needs, omega arith, along _ _ (row-end _ _ _ _ _ _ _ (c .rows-test .left)) (c .before .rows .inv .4))
+cycles-again :
+    tie.Need-cycles-again Inv-rows μ-rows Inv-cycles μ-cycles Inv-relations μ-relations
+cycles-again c = (search needs, omega arith, along _ _ (row-end _ _ _ _ _ _ _ (c .rows-test .left)) (c .before .rows .inv .4))
 
 add-relation :
     tie.Need-add-relation Inv-rows μ-rows Inv-cycles μ-cycles Inv-relations μ-relations
@@ -195,7 +150,7 @@ returns-2 c =
     let m = at-mark _ (t .at) (b .rows-test .taken) (t .inv .3) in
     rw (c .batch-row .ensures, c .before .relation-of .ensures)
     (run-stop _ _ (row-here _ _ _ _ _ _ (t .at) _ (b .rows-test .taken) (m .0) (r .ensures .ends)) (t .inv .4)
-    (sym (r .ensures .holds-is) ∙ not-true _ (i .if3 .taken)))
+    (sym (r .ensures .holds-is) ∙ not-true _ (i .if2 .taken)))
 
 pub walk-parts-spec : {M : Type 1} → statement M
 walk-parts-spec =
@@ -210,26 +165,20 @@ walk-parts-spec =
     relations-holds
     cycles-holds
     part-at-requires
-    rows-ahead-requires
-    mul-tested
-    add-tested
-    add-cycle
-    cycles-less
-    cycles-again
     rows-holds
     mul-mark
     shared-slice-read-mark
     add-test-row
     test-row-requires
-    add-tested-2
+    add-tested
     relation-of-requires
     cast-batch-row
     batch-row-requires
     rows-less
     rows-again
-    add-cycle-2
-    cycles-less-2
-    cycles-again-2
+    add-cycle
+    cycles-less
+    cycles-again
     add-relation
     relations-less
     relations-again
