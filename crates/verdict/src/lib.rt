@@ -46,7 +46,8 @@ pub enum CheckAnswer {
     Refused(Refusal),
 }
 
-fn clear(s: &mut [u64])
+// Writes 0 in every word: so the check leaves its scratch.
+pub fn clear(s: &mut [u64])
     ensures { λ _. ⌜ now (s .exit) ≡ replicate (length (now (s .entry))) 0 ⌝ }
 {
     let mut i: usize = 0;
