@@ -1,0 +1,90 @@
+-- `packed::many::four_columns` meets its contract: the cycles passed have their four columns below what stood there, and were seen.
+-- Assumes nothing.
+use mathlib.Core.Path.{_≡_, refl, sym, ap, subst, _∙_}
+use Prim.Native.Nat.{ℕ, _+_, _*_, _-_, _≤_}
+use native.Mathlib.Omega.{arith}
+use lib.ListN.{length}
+use Rattle.packed.specs.Columns.{FourTurn, first-turn, next-turn, last-turn}
+use borrow.Author.Needs.{needs}
+use Rattle.packed.proofs.many.four_columns.Statement.{statement}
+use Rattle.packed.proofs.many.four_columns.Tie as tie
+
+abbrev Inv-loop : tie.InvT-loop
+Inv-loop batch at s step acc₀ low₀ high₀ d₀ i₀ acc low high d i = (d ≤ length acc₀) × FourTurn batch at s acc₀ acc low high d i
+
+abbrev μ-loop : tie.MeasureT-loop
+μ-loop batch at s step acc₀ low₀ high₀ d₀ i₀ acc low high d i = length acc₀ - d
+
+loop-holds : tie.Need-loop-holds Inv-loop μ-loop
+loop-holds c = (search needs, first-turn _ _ _ _)
+
+mul-put-four : tie.Need-mul-put-four Inv-loop μ-loop
+mul-put-four c = let l = c .before .loop in omega (arith, c .before .before .before .before .pre .inside, c .before .before .before .before .pre .few, c .before .before .before .before .pre .two, l .inv .1 .lengths, l .inv .1 .place, c .loop-test .taken)
+
+slice-read-put-four : tie.Need-slice-read-put-four Inv-loop μ-loop
+slice-read-put-four c = let l = c .before .before .loop in omega (arith, c .before .before .before .before .before .pre .inside, c .before .before .before .before .before .pre .few, c .before .before .before .before .before .pre .two, l .inv .1 .lengths, l .inv .1 .place, c .before .loop-test .taken)
+
+put-four-requires : tie.Need-put-four-requires Inv-loop μ-loop
+put-four-requires c κs = let l = c .before .before .loop in omega (arith, c .before .before .before .before .before .pre .inside, c .before .before .before .before .before .pre .few, c .before .before .before .before .before .pre .two, l .inv .1 .lengths, l .inv .1 .place, c .before .loop-test .taken)
+
+mul-acc : tie.Need-mul-acc Inv-loop μ-loop
+mul-acc c = let l = c .before .before .before .loop in omega (arith, c .before .before .before .before .before .before .pre .inside, c .before .before .before .before .before .before .pre .few, c .before .before .before .before .before .before .pre .two, l .inv .1 .lengths, l .inv .1 .place, c .before .before .loop-test .taken)
+
+slice-write-acc : tie.Need-slice-write-acc Inv-loop μ-loop
+slice-write-acc c = let l = c .before .before .before .loop in omega (arith, c .before .before .before .before .before .before .pre .inside, c .before .before .before .before .before .before .pre .few, c .before .before .before .before .before .before .pre .two, l .inv .1 .lengths, l .inv .1 .place, c .before .before .loop-test .taken)
+
+seen-four-requires : tie.Need-seen-four-requires Inv-loop μ-loop
+seen-four-requires c κs = let l = c .before .before .before .loop in omega (arith, c .before .before .before .before .before .before .pre .inside, c .before .before .before .before .before .before .pre .few, c .before .before .before .before .before .before .pre .two, l .inv .1 .lengths, l .inv .1 .place, c .before .before .loop-test .taken)
+
+add-seen-four : tie.Need-add-seen-four Inv-loop μ-loop
+add-seen-four c = let l = c .before .before .before .before .loop in omega (arith, c .before .before .before .before .before .before .before .pre .inside, c .before .before .before .before .before .before .before .pre .few, c .before .before .before .before .before .before .before .pre .two, l .inv .1 .lengths, l .inv .1 .place, c .before .before .before .loop-test .taken)
+
+seen-four-requires-2 : tie.Need-seen-four-requires-2 Inv-loop μ-loop
+seen-four-requires-2 c κs = let l = c .before .before .before .before .loop in omega (arith, c .before .before .before .before .before .before .before .pre .inside, c .before .before .before .before .before .before .before .pre .few, c .before .before .before .before .before .before .before .pre .two, l .inv .1 .lengths, l .inv .1 .place, c .before .before .before .loop-test .taken)
+
+add-d : tie.Need-add-d Inv-loop μ-loop
+add-d c = let l = c .before .before .before .before .before .loop in omega (arith, c .before .before .before .before .before .before .before .before .pre .inside, c .before .before .before .before .before .before .before .before .pre .few, c .before .before .before .before .before .before .before .before .pre .two, l .inv .1 .lengths, l .inv .1 .place, c .before .before .before .before .loop-test .taken)
+
+add-i : tie.Need-add-i Inv-loop μ-loop
+add-i c = let l = c .before .before .before .before .before .loop in omega (arith, c .before .before .before .before .before .before .before .before .pre .inside, c .before .before .before .before .before .before .before .before .pre .few, c .before .before .before .before .before .before .before .before .pre .two, l .inv .1 .lengths, l .inv .1 .place, c .before .before .before .before .loop-test .taken)
+
+loop-less : tie.Need-loop-less Inv-loop μ-loop
+loop-less c = let l = c .before .before .before .before .before .loop in omega (arith, c .before .before .before .before .before .before .before .before .pre .inside, c .before .before .before .before .before .before .before .before .pre .few, c .before .before .before .before .before .before .before .before .pre .two, l .inv .1 .lengths, l .inv .1 .place, c .before .before .before .before .loop-test .taken)
+
+loop-again : tie.Need-loop-again Inv-loop μ-loop
+loop-again c =
+    let l = c .before .before .before .before .before .loop in let a = c .before .before .before .before .before .before .before .before .args in (
+      omega (arith, c .before .before .before .before .loop-test .taken),
+      next-turn (a .batch .now) (a .at) (a .s) (a .acc .now) (l .acc) (l .low) (l .high) (l .d) (l .i) (a .step) (omega (arith, l .inv .1 .lengths, c .before .before .before .before .loop-test .taken)) (c .before .before .before .before .before .before .before .before .pre .two) (l .inv .1) (c .before .before .put-four .ensures)
+          (c .before .seen-four .ensures) (c .seen-four2 .ensures),
+    )
+
+same-length : tie.Need-same-length Inv-loop μ-loop
+same-length c = c .before .loop .inv .1 .lengths
+
+returns : tie.Need-returns Inv-loop μ-loop
+returns c =
+    let l = c .before .loop in let a = c .before .before .before .before .args in
+    last-turn (a .batch .now) (a .at) (a .s) (a .acc .now) (l .acc) (l .low) (l .high) (l .d) (l .i) (omega (arith, l .inv .0, l .inv .1 .lengths, c .loop-test .left)) (l .inv .1)
+
+pub four-columns-spec : {M : Type 1} → statement M
+four-columns-spec =
+    tie.close
+    (tie.spec
+    Inv-loop
+    μ-loop
+    loop-holds
+    mul-put-four
+    slice-read-put-four
+    put-four-requires
+    mul-acc
+    slice-write-acc
+    seen-four-requires
+    add-seen-four
+    seen-four-requires-2
+    add-d
+    add-i
+    loop-less
+    loop-again
+    same-length
+    returns)

@@ -1,0 +1,84 @@
+-- `packed::many::word_columns` meets its contract: after each turn acc has the stack of the columns passed.
+-- Assumes nothing.
+use mathlib.Core.Path.{_≡_, refl, sym, _∙_}
+use Prim.Native.Nat.{_+_, _*_, _-_, _≤_}
+use native.Mathlib.Omega.{arith}
+use Rattle.packed.specs.Columns.{WordTurn, column-below, four-fits, first-word, next-word, last-word}
+use borrow.Author.Needs.{needs}
+use Rattle.packed.proofs.many.word_columns.Statement.{statement}
+use Rattle.packed.proofs.many.word_columns.Tie as tie
+
+abbrev Inv-loop : tie.InvT-loop
+Inv-loop cpi batch step k acc₀ bad₀ j₀ acc bad j = (j ≤ 16) × WordTurn cpi batch k acc bad j
+
+abbrev μ-loop : tie.MeasureT-loop
+μ-loop cpi batch step k acc₀ bad₀ j₀ acc bad j = j
+
+loop-holds : tie.Need-loop-holds Inv-loop μ-loop
+loop-holds c = let p = c .before .before .pre in (search needs, first-word _ _ _ _ (p .sized) (p .clear))
+
+sub-j : tie.Need-sub-j Inv-loop μ-loop
+sub-j c = omega (arith, c .before .before .before .before .pre .inside, c .before .before .before .before .pre .few, c .before .loop .inv .0, c .loop-test .taken)
+
+mul-at : tie.Need-mul-at Inv-loop μ-loop
+mul-at c = omega (arith, c .before .before .before .before .pre .inside, c .before .before .before .before .pre .few, c .before .loop .inv .0, c .loop-test .taken)
+
+mul-at-2 : tie.Need-mul-at-2 Inv-loop μ-loop
+mul-at-2 c = omega (arith, c .before .before .before .before .pre .inside, c .before .before .before .before .pre .few, c .before .loop .inv .0, c .loop-test .taken)
+
+add-at : tie.Need-add-at Inv-loop μ-loop
+add-at c = omega (arith, c .before .before .before .before .pre .inside, c .before .before .before .before .pre .few, c .before .loop .inv .0, c .loop-test .taken)
+
+mul-at-3 : tie.Need-mul-at-3 Inv-loop μ-loop
+mul-at-3 c = omega (arith, c .before .before .before .before .pre .inside, c .before .before .before .before .pre .few, c .before .loop .inv .0, c .loop-test .taken)
+
+mul-at-4 : tie.Need-mul-at-4 Inv-loop μ-loop
+mul-at-4 c =
+    let p = c .before .before .before .before .pre in let a = c .before .before .before .before .args in let l = c .before .loop in
+    omega (arith, p .few, column-below (a .cpi) (a .batch .now) (a .k) (64 * a .k + 4 * (l .j - 1)) (omega (arith, p .inside, l .inv .0, c .loop-test .taken)))
+
+mul-four-columns : tie.Need-mul-four-columns Inv-loop μ-loop
+mul-four-columns c = omega (arith, c .before .before .before .before .pre .inside, c .before .before .before .before .pre .few, c .before .loop .inv .0, c .loop-test .taken)
+
+four-columns-requires : tie.Need-four-columns-requires Inv-loop μ-loop
+four-columns-requires c κs =
+    let p = c .before .before .before .before .before .pre in let a = c .before .before .before .before .before .args in let l = c .before .before .loop in
+    four-fits (a .cpi) (a .batch .now) (a .k) (l .j - 1) (a .step) (omega (arith, l .inv .0, c .before .loop-test .taken)) (p .inside) (p .two) (p .words) (l .acc) (l .inv .1 .sized)
+
+loop-less : tie.Need-loop-less Inv-loop μ-loop
+loop-less c = omega (arith, c .before .before .before .before .loop-test .taken)
+
+loop-again : tie.Need-loop-again Inv-loop μ-loop
+loop-again c =
+    let p = c .before .before .before .before .before .before .before .before .pre in let a = c .before .before .before .before .before .before .before .before .args in let l = c .before .before .before .before .before .loop in (
+      omega (arith, l .inv .0),
+      next-word (a .cpi) (a .batch .now) (a .k) (l .acc) _ (l .bad) _ (l .j) (c .before .before .before .before .loop-test .taken) (l .inv .0) (l .inv .1) (c .before .before .four-columns .ensures),
+    )
+
+same-length : tie.Need-same-length Inv-loop μ-loop
+same-length c = c .before .loop .inv .1 .sized ∙ sym (c .before .before .before .before .pre .sized)
+
+returns : tie.Need-returns Inv-loop μ-loop
+returns c =
+    let a = c .before .before .before .before .args in let l = c .before .loop in
+    last-word (a .cpi) (a .batch .now) (a .k) (l .acc) (l .bad) (l .j) (omega (arith, c .loop-test .left)) (l .inv .1)
+
+pub word-columns-spec : {M : Type 1} → statement M
+word-columns-spec =
+    tie.close
+    (tie.spec
+    Inv-loop
+    μ-loop
+    loop-holds
+    sub-j
+    mul-at
+    mul-at-2
+    add-at
+    mul-at-3
+    mul-at-4
+    mul-four-columns
+    four-columns-requires
+    loop-less
+    loop-again
+    same-length
+    returns)

@@ -1,0 +1,99 @@
+// Packing: a cycle's columns as words, 64 columns a word. In cycle order, column c of cycle d is bit c % 64 of word 32 · d + c / 64.
+mod many;
+mod one;
+pub mod sums;
+
+use layout::Refusal;
+ghost use mathlib.Core.Path.{_≡_};
+ghost use mathlib.Core.Bool.{true};
+ghost use Prim.Native.Nat.{_+_, _*_, _<_, _≤_};
+ghost use lib.ListN.{length};
+ghost use Rattle.packed.specs.Packed.{PackCalled, packCalled};
+ghost use Rattle.packed.specs.Named.{Named, NamedIn};
+
+// Whether the columns that were packed are bits.
+pub enum Packing {
+    Bits,
+    NotBits,
+    Refused(Refusal),
+}
+
+// Words 0 to 14, 16 and 17. The answer is 0 exactly where their columns are bits.
+fn pack_one(batch: &[u64], out: &mut [u64]) -> u64
+    requires { ⌜ NamedIn 1 (now batch) (now out) ⌝ }
+    ensures { λ r. ⌜ Named 1 (now (batch .entry)) (now (out .entry)) (now (out .exit)) r ⌝ }
+{
+    let low = one::pack_words(batch, 0, 15, out);
+    let high = one::pack_words(batch, 16, 18, out);
+    low | high
+}
+
+// How far apart the words of two cycles stand comes from the length and not as the number 2: knowing it, the compiler makes
+// vectors of the loop over cycles, and they are slower.
+fn pack_many(cpi: usize, batch: &[u64], acc: &mut [u64], out: &mut [u64]) -> u64
+    requires { ⌜ NamedIn cpi (now batch) (now out) × (length (now acc) ≡ cpi) ⌝ }
+    ensures { λ r. ⌜ Named cpi (now (batch .entry)) (now (out .entry)) (now (out .exit)) r ⌝ }
+{
+    let step = batch.len() / (4096 * cpi);
+    let low = many::pack_words(cpi, batch, step, 0, 15, acc, out);
+    let high = many::pack_words(cpi, batch, step, 16, 18, acc, out);
+    low | high
+}
+
+fn pack_small(cpi: usize, batch: &[u64], out: &mut [u64]) -> u64
+    requires { ⌜ NamedIn cpi (now batch) (now out) × (cpi < 17) ⌝ }
+    ensures { λ r. ⌜ Named cpi (now (batch .entry)) (now (out .entry)) (now (out .exit)) r ⌝ }
+{
+    let mut acc = [0u64; 16];
+    pack_many(cpi, batch, &mut acc[..cpi], out)
+}
+
+fn pack_large(cpi: usize, batch: &[u64], out: &mut [u64]) -> u64
+    requires { ⌜ NamedIn cpi (now batch) (now out) ⌝ }
+    ensures { λ r. ⌜ Named cpi (now (batch .entry)) (now (out .entry)) (now (out .exit)) r ⌝ }
+{
+    let mut acc = [0u64; 256];
+    pack_many(cpi, batch, &mut acc[..cpi], out)
+}
+
+fn pack(cpi: usize, batch: &[u64], out: &mut [u64]) -> u64
+    requires { ⌜ NamedIn cpi (now batch) (now out) ⌝ }
+    ensures { λ r. ⌜ Named cpi (now (batch .entry)) (now (out .entry)) (now (out .exit)) r ⌝ }
+{
+    if cpi == 1 {
+        return pack_one(batch, out);
+    }
+    if cpi < 17 {
+        return pack_small(cpi, batch, out);
+    }
+    pack_large(cpi, batch, out)
+}
+
+// The words of every cycle that hold columns which rows name, in cycle order: questions 1, 2 and 18.
+pub fn pack_named(cpi: usize, batch: &[u64], out: &mut [u64]) -> Packing
+    ensures { λ r. ⌜ _≡_ {A = PackCalled} (record { answer = r; out = now (out .exit) }) (packCalled cpi (now (batch .entry)) (now (out .entry))) ⌝ }
+{
+    if !layout::is_allowed(cpi) {
+        return Packing::Refused(Refusal {
+            number: 1,
+            place: 0,
+        });
+    }
+    if batch.len() != 8192 * cpi {
+        return Packing::Refused(Refusal {
+            number: 2,
+            place: 0,
+        });
+    }
+    if out.len() != 32 * cpi {
+        return Packing::Refused(Refusal {
+            number: 18,
+            place: 0,
+        });
+    }
+    if pack(cpi, batch, out) == 0 {
+        Packing::Bits
+    } else {
+        Packing::NotBits
+    }
+}
