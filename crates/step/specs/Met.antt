@@ -4,7 +4,7 @@
 pub mod Read
 pub mod Each
 pub mod First
-use mathlib.Core.Bool.{Bool, false, not, cond, _&&_, _||_}
+use mathlib.Core.Bool.{Bool, true, false, not, cond, _&&_, _||_}
 use mathlib.Core.List.{List, [], _∷_}
 use Prim.Native.Nat.{ℕ, _+_, _-_, _*_, _/_, _%_, _^_}
 use lib.Dec.{eqb, ltb}
@@ -122,6 +122,11 @@ unfoldable pub conditions : StepWords → StepFlags → Gf128 → List Bool
 conditions w f output =
     arithmetic w f ∷ shift w f ∷ write w f ∷ system w output ∷ loadWord w f
     ∷ loadByte w f ∷ loadHalf w f ∷ upperZero w f ∷ secondZero w f ∷ address w f ∷ []
+
+-- all of them are met
+abbrev pub allTrue : List Bool → Bool
+allTrue [] = true
+allTrue (t ∷ ts) = t && allTrue ts
 
 -- number k of them, counted from 1
 abbrev pub numbered : List Bool → ℕ → Bool

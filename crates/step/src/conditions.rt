@@ -24,7 +24,7 @@ ghost use Rattle.layout.specs.Columns.{ONE-COL};
 ghost use Rattle.verdict.specs.Row.{cycleOf};
 ghost use Rattle.verdict.specs.Walks.{Cycle};
 ghost use Rattle.step.specs.Words.{bitsOf};
-ghost use Rattle.step.specs.Met.{byteOf, arithmetic, shift, write, system, loadWord, loadByte, loadHalf, upperZero, secondZero, address, conditions, firstFalse, firstUnmet, wordsOf, flagsIn, stepAnswer};
+ghost use Rattle.step.specs.Met.{byteOf, arithmetic, shift, write, system, loadWord, loadByte, loadHalf, upperZero, secondZero, address, conditions, allTrue, firstFalse, firstUnmet, wordsOf, flagsIn, stepAnswer};
 
 // Every condition is met, or the number of the first that is not.
 pub enum StepAnswer {
@@ -34,15 +34,15 @@ pub enum StepAnswer {
 }
 
 // The words that the conditions read; the opcode has seven bits.
-struct StepWords {
-    rs1: u64,
-    rd: u64,
-    load_val: u64,
-    shift_out: u64,
-    t1: u64,
-    t2: u64,
-    alu: u64,
-    opcode: u64,
+pub struct StepWords {
+    pub rs1: u64,
+    pub rd: u64,
+    pub load_val: u64,
+    pub shift_out: u64,
+    pub t1: u64,
+    pub t2: u64,
+    pub alu: u64,
+    pub opcode: u64,
 }
 
 // The flags by their columns' names, and what stands behind them: OFF of three bits and the RAM address of eight.
@@ -197,6 +197,15 @@ fn flags_in(w: u64) -> StepFlags
         off: (w >> 16) % 8,
         ram_addr: (w >> 24) % 256,
     }
+}
+
+// Whether all ten are met, with no branch between the tests; `flags` is the word of columns 768 on.
+pub fn meets_all(w: StepWords, flags: u64, output: Gf128) -> bool
+    ensures { λ r. ⌜ r ≡ allTrue (conditions w (flagsIn flags) output) ⌝ }
+{
+    let met = conditions(w, flags_in(flags), output);
+    let loads = met[4] & (met[5] & (met[6] & (met[7] & (met[8] & met[9]))));
+    met[0] & (met[1] & (met[2] & (met[3] & loads)))
 }
 
 // Of a cycle of the batch. The public element behind the one column is the same for every cycle.
