@@ -1,0 +1,61 @@
+-- `judge::cycle::judge_cycles` meets its contract: what is left to judge from here on is what was to judge at all.
+-- Assumes nothing.
+use mathlib.Core.Path.{_≡_, sym, _∙_}
+use Prim.Native.Nat.{_-_, _≤_}
+use native.Mathlib.Nat.{sub-zero}
+use native.Mathlib.Omega.{arith}
+use borrow.Author.Needs.{needs}
+use borrow.Author.Tests.{not-true, not-false}
+use Rattle.judge.specs.Words.{allJudged}
+use Rattle.judge.specs.Words.Walk.{judged-stops, judged-goes, judged-ends}
+use Rattle.judge.proofs.cycle.judge_cycles.Statement.{statement}
+use Rattle.judge.proofs.cycle.judge_cycles.Tie as tie
+
+abbrev Inv-loop : tie.InvT-loop
+Inv-loop cpi words output cycle₀ cycle = (cycle ≤ cpi) × (allJudged words output (cpi - cycle) cycle ≡ allJudged words output cpi 0)
+
+abbrev μ-loop : tie.MeasureT-loop
+μ-loop cpi words output cycle₀ cycle = cpi - cycle
+
+loop-holds : tie.Need-loop-holds Inv-loop μ-loop
+loop-holds c = (search needs, rw sub-zero)
+
+mul-judge-cycle : tie.Need-mul-judge-cycle Inv-loop μ-loop
+mul-judge-cycle c = omega arith
+
+judge-cycle-requires : tie.Need-judge-cycle-requires Inv-loop μ-loop
+judge-cycle-requires c κs = omega arith
+
+returns : tie.Need-returns Inv-loop μ-loop
+returns c =
+    let t = c .before .before .before .loop in let a = c .before .before .before .before .before .args in
+    sym
+    (judged-stops (a .words .now) (a .output) (a .cpi) (t .cycle) (c .before .before .loop-test .taken)
+    (sym (c .before .judge-cycle .ensures) ∙ not-true _ (c .if1 .taken)))
+    ∙ t .inv .1
+
+add-cycle : tie.Need-add-cycle Inv-loop μ-loop
+add-cycle c = omega arith
+
+loop-less : tie.Need-loop-less Inv-loop μ-loop
+loop-less c = omega arith
+
+loop-again : tie.Need-loop-again Inv-loop μ-loop
+loop-again c =
+    let t = c .before .before .before .loop in let a = c .before .before .before .before .before .args in (
+      omega arith,
+      sym
+          (judged-goes (a .words .now) (a .output) (a .cpi) (t .cycle) (c .before .before .loop-test .taken)
+          (sym (c .before .judge-cycle .ensures) ∙ not-false _ (c .if1 .left)))
+          ∙ t .inv .1,
+    )
+
+returns-2 : tie.Need-returns-2 Inv-loop μ-loop
+returns-2 c =
+    let t = c .before .loop in let a = c .before .before .before .args in
+    sym (judged-ends (a .words .now) (a .output) (a .cpi) (t .cycle) (c .loop-test .left)) ∙ t .inv .1
+
+pub judge-cycles-spec : {M : Type 1} → statement M
+judge-cycles-spec =
+    tie.close
+    (tie.spec Inv-loop μ-loop loop-holds mul-judge-cycle judge-cycle-requires returns add-cycle loop-less loop-again returns-2)

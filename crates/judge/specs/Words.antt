@@ -1,0 +1,65 @@
+-- A cycle judged from packed words: word k has columns 64 k to 64 k + 63. The laws are in Walk, of the blocks and of cycle after cycle, and in
+-- Same: it is the judgement of the bits.
+-- Assumes nothing.
+pub mod Walk
+pub mod Same
+use mathlib.Core.Bool.{Bool, true, not, _&&_}
+use mathlib.Core.List.{List, [], _∷_}
+use Prim.Native.Nat.{ℕ, zero, suc, _+_, _*_, _/_, _%_, _^_}
+use lib.Dec.{eqb, ltb}
+use lib.ListN.{getD}
+use Rattle.field.specs.declared.Gf128.{Gf128}
+use Rattle.step.specs.declared.derive.GivenWords.{GivenWords}
+use Rattle.step.specs.declared.conditions.StepWords.{StepWords}
+use Rattle.step.specs.Fill.Blocks.{Block}
+use Rattle.step.specs.Fill.Words.{derivedWords, blocks}
+use Rattle.step.specs.Met.{flagsIn, conditions, allTrue}
+
+-- which words are read: 0 to 14, 16 and 17
+abbrev pub readWord : ℕ → Bool
+readWord k = ltb k 18 && not (eqb k 15)
+
+-- the words of a list from a place on
+abbrev pub wordsFrom : List ℕ → ℕ → ℕ → ℕ
+wordsFrom list at k = getD list (at + k) 0
+
+-- what the conditions read; the opcode is FETCH bits 0 to 6
+abbrev pub stepIn : (ℕ → ℕ) → StepWords
+stepIn ws =
+    record {
+      rs1 = ws 0;
+      rd = ws 2;
+      «load_val» = ws 3;
+      «shift_out» = ws 4;
+      t1 = ws 5;
+      t2 = ws 6;
+      alu = ws 8;
+      opcode = ws 13 % 2 ^ 7;
+    }
+
+-- what the derived columns depend on
+abbrev pub givenIn : (ℕ → ℕ) → GivenWords
+givenIn ws = record { rs1 = ws 0; rs2 = ws 1; load = ws 3; t1 = ws 5; t2 = ws 6; alu = ws 8; flags = ws 12; fetch = ws 13 }
+
+-- bits j to j + n - 1 of one word are the low n bits of another
+abbrev pub sameBits : ℕ → ℕ → ℕ → ℕ → Bool
+sameBits j n w v = eqb (w / 2 ^ j % 2 ^ n) (v % 2 ^ n)
+
+-- a block, which lies in one word, is written there
+abbrev pub isWrittenIn : (ℕ → ℕ) → Block → Bool
+isWrittenIn ws k = sameBits (k .column % 64) (k .width) (ws (k .column / 64)) (k .word)
+
+-- every block is
+abbrev pub allWrittenIn : (ℕ → ℕ) → List Block → Bool
+allWrittenIn ws [] = true
+allWrittenIn ws (k ∷ ks) = isWrittenIn ws k && allWrittenIn ws ks
+
+-- of a cycle's words, and of the public element one_col + 1
+unfoldable pub judgedWords : (ℕ → ℕ) → Gf128 → Bool
+judgedWords ws output =
+    allTrue (conditions (stepIn ws) (flagsIn (ws 12)) output) && allWrittenIn ws (blocks (givenIn ws) (derivedWords (givenIn ws)))
+
+-- of cycles d, d + 1 .. d + n - 1, 32 words each
+unfoldable pub allJudged : List ℕ → Gf128 → ℕ → ℕ → Bool
+allJudged list output zero d = true
+allJudged list output (suc n) d = judgedWords (wordsFrom list (32 * d)) output && allJudged list output n (d + 1)

@@ -1,0 +1,87 @@
+-- The judgement of packed words is that of the cycle's bits; and it reads no other words than it says.
+-- Assumes nothing.
+use mathlib.Core.Path.{_≡_, refl, sym, ap, ap₂, _∙_}
+use mathlib.Core.Bool.{Bool, true, _&&_}
+use mathlib.Core.List.{List, [], _∷_}
+use Prim.Native.Nat.{ℕ, _+_, _*_, _/_, _%_, _^_, _≤_}
+use native.Mathlib.Omega.{arith}
+use borrow.Author.Tests.{leb-true}
+use lib.Dec.{eqb, leb}
+use Rattle.field.specs.declared.Gf128.{Gf128}
+use Rattle.layout.specs.Questions.{both}
+use Rattle.step.specs.Words.{word}
+use Rattle.step.specs.declared.derive.GivenWords.{GivenWords}
+use Rattle.step.specs.declared.derive.DerivedWords.{DerivedWords}
+use Rattle.step.specs.declared.conditions.StepWords.{StepWords}
+use Rattle.step.specs.Fill.Bits.{word-part}
+use Rattle.step.specs.Fill.Blocks.{Block}
+use Rattle.step.specs.Fill.Words.{derivedWords, blocks}
+use Rattle.step.specs.Met.{wordsOf, flagsIn, conditions, allTrue}
+use Rattle.step.specs.Met.Read.{opcode-in, flags-in}
+use Rattle.judge.specs.Judged.{givenOf, allWritten, judgedCycle}
+use Rattle.judge.specs.Words.{readWord, stepIn, givenIn, sameBits, allWrittenIn, judgedWords}
+
+-- every block lies in one word, and in one that is read
+abbrev inWords : List Block → Bool
+inWords [] = true
+inWords (k ∷ ks) = leb (k .column % 64 + k .width) 64 && (readWord (k .column / 64) && inWords ks)
+
+-- by one computed test
+blocks-in-words : (g : GivenWords) (w : DerivedWords) → inWords (blocks g w) ≡ true
+blocks-in-words g w = refl
+
+-- ---- words that agree wherever one is read
+
+module _ (ws vs : ℕ → ℕ) (h : (k : ℕ) → readWord k ≡ true → ws k ≡ vs k) where
+  written-agree : (ks : List Block) → inWords ks ≡ true → allWrittenIn ws ks ≡ allWrittenIn vs ks
+  written-agree [] t = refl
+  written-agree (k ∷ ks) t =
+      let p = both (leb (k .column % 64 + k .width) 64) (readWord (k .column / 64) && inWords ks) t in
+      let q = both (readWord (k .column / 64)) (inWords ks) (p .1) in
+      ap₂ _&&_
+      (ap (λ (w : ℕ). sameBits (k .column % 64) (k .width) w (k .word)) (h (k .column / 64) (q .0)))
+      (written-agree ks (q .1))
+
+  step-agree : stepIn ws ≡ stepIn vs
+  step-agree = cc (h 0 refl, h 2 refl, h 3 refl, h 4 refl, h 5 refl, h 6 refl, h 8 refl, h 13 refl)
+
+  given-agree : givenIn ws ≡ givenIn vs
+  given-agree = cc (h 0 refl, h 1 refl, h 3 refl, h 5 refl, h 6 refl, h 8 refl, h 12 refl, h 13 refl)
+
+  pub judged-agree : (output : Gf128) → judgedWords ws output ≡ judgedWords vs output
+  unfolding judgedWords
+  judged-agree output =
+      ap₂ _&&_
+      (ap₂ (λ (s : StepWords) (f : ℕ). allTrue (conditions s (flagsIn f) output)) step-agree (h 12 refl))
+      (ap (λ (g : GivenWords). allWrittenIn ws (blocks g (derivedWords g))) given-agree
+      ∙ written-agree (blocks (givenIn vs) (derivedWords (givenIn vs))) (blocks-in-words (givenIn vs) (derivedWords (givenIn vs))))
+
+-- ---- a cycle's bits, packed
+
+module _ (b : ℕ → Bool) where
+  abbrev packed : ℕ → ℕ
+  packed k = word b (64 * k) 64
+
+  written-packed : (ks : List Block) → inWords ks ≡ true → allWrittenIn packed ks ≡ allWritten b ks
+  written-packed [] t = refl
+  written-packed (k ∷ ks) t =
+      let p = both (leb (k .column % 64 + k .width) 64) (readWord (k .column / 64) && inWords ks) t in
+      let q = both (readWord (k .column / 64)) (inWords ks) (p .1) in
+      ap₂ _&&_ (ap (λ (x : ℕ). eqb x (k .word % 2 ^ k .width)) (part (k .column) (k .width) (leb-true _ _ (p .0)))) (written-packed ks (q .1))
+    where
+      part : (c n : ℕ) → c % 64 + n ≤ 64 → packed (c / 64) / 2 ^ (c % 64) % 2 ^ n ≡ word b c n
+      part c n l = word-part b (64 * (c / 64)) 64 (c % 64) n l ∙ ap (λ (o : ℕ). word b o n) (omega arith)
+
+  step-packed : stepIn packed ≡ wordsOf b
+  step-packed = cc (opcode-in b)
+
+  judged-packed : (output : Gf128) → judgedWords packed output ≡ judgedCycle b output
+  unfolding judgedWords judgedCycle
+  judged-packed output =
+      ap₂ _&&_
+      (ap₂ (λ s f. allTrue (conditions s f output)) step-packed (flags-in b))
+      (written-packed (blocks (givenOf b) (derivedWords (givenOf b))) (blocks-in-words (givenOf b) (derivedWords (givenOf b))))
+
+  pub judged-same : (ws : ℕ → ℕ) → ((k : ℕ) → readWord k ≡ true → ws k ≡ word b (64 * k) 64) → (output : Gf128)
+      → judgedWords ws output ≡ judgedCycle b output
+  judged-same ws h output = judged-agree ws packed h output ∙ judged-packed output
