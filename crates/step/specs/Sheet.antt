@@ -100,7 +100,7 @@ pub record Sheet : Type 0 where
 -- ---- its proof
 
 -- the ten conditions of a cycle that writes and shifts nothing, and loads no byte, half or word
-calm : (b : ℕ → Bool) (n : ℕ) → b IS-SHIFT ≡ false → b WE ≡ false → b LD-WORD ≡ false → b LD-BYTE ≡ false → b LD-HALF ≡ false
+pub calm : (b : ℕ → Bool) (n : ℕ) → b IS-SHIFT ≡ false → b WE ≡ false → b LD-WORD ≡ false → b LD-BYTE ≡ false → b LD-HALF ≡ false
     → word b ALU 64 ≡ (word b T1 64 + word b T2 64 + digit (b SUB)) % 2 ^ 64 → word b RD 64 ≡ word b RS1 64 → n ≡ word b RD 64
     → word b (RD + 16) 48 ≡ 0 → word b (RD + 8) 8 ≡ 0 → ((b IS-LOAD ⊻ b IS-STORE) ≡ true → word b RAM-ADDR 8 ≡ word b (ALU + 3) 8)
     → Step b (ofWords n 0)

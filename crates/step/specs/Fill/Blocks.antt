@@ -56,14 +56,14 @@ inBlocks (k ∷ ks) c = inBlock k c || inBlocks ks c
 
 -- ---- a column is in a block
 
-in-block : (k : Block) (c : ℕ) → inBlock k c ≡ true → (k .column ≤ c) × (c < k .column + k .width)
+pub in-block : (k : Block) (c : ℕ) → inBlock k c ≡ true → (k .column ≤ c) × (c < k .column + k .width)
 in-block k c e =
     let p = both (leb (k .column) c) (ltb c (k .column + k .width)) e in (leb-true _ _ (p .0), ltb-true _ _ (p .1))
 
-is-in-block : (k : Block) (i : ℕ) → i < k .width → inBlock k (k .column + i) ≡ true
+pub is-in-block : (k : Block) (i : ℕ) → i < k .width → inBlock k (k .column + i) ≡ true
 is-in-block k i l = ap₂ _&&_ (le-leb (k .column) (k .column + i) (omega arith)) (lt-ltb (k .column + i) (k .column + k .width) (omega arith))
 
-one-of : (a b : Bool) → (a || b) ≡ true → (a ≡ true) ⊎ (b ≡ true)
+pub one-of : (a b : Bool) → (a || b) ≡ true → (a ≡ true) ⊎ (b ≡ true)
 one-of true b e = inl refl
 one-of false b e = inr e
 

@@ -41,11 +41,11 @@ module _ (g : GivenWords) (w : DerivedWords) where
   pub blocks-ordered : ordered 0 (blocks g w) ≡ true
   blocks-ordered = refl
 
-  blocks-are-derived : (c : ℕ) → c < 2048 → derived c ≡ inBlocks (blocks g w) c
+  pub blocks-are-derived : (c : ℕ) → c < 2048 → derived c ≡ inBlocks (blocks g w) c
   unfolding derived
   blocks-are-derived = same-below 2048 derived (inBlocks (blocks g w)) refl
 
-  in-blocks-derived : (c : ℕ) → inBlocks (blocks g w) c ≡ true → derived c ≡ true
+  pub in-blocks-derived : (c : ℕ) → inBlocks (blocks g w) c ≡ true → derived c ≡ true
   in-blocks-derived c e = blocks-are-derived c (blocks-below (blocks g w) 0 c blocks-ordered e) ∙ e
 
 module _ (cpi d : ℕ) (l : d < cpi) (b : List ℕ) (s : length b ≡ 8192 * cpi) where

@@ -34,7 +34,7 @@ but-not false r = (λ g e n. absurd (false≢true e), λ g e. absurd (false≢tr
 equal : (m n : ℕ) → (eqb m n ≡ true) ↔ (m ≡ n)
 equal m n = (eqb-true m n, eq-eqb m n)
 
-both-so : (p q : Bool) {P Q : Type 0} → (p ≡ true) ↔ P → (q ≡ true) ↔ Q → ((p && q) ≡ true) ↔ (P × Q)
+pub both-so : (p q : Bool) {P Q : Type 0} → (p ≡ true) ↔ P → (q ≡ true) ↔ Q → ((p && q) ≡ true) ↔ (P × Q)
 both-so true q h k = (λ e. (h .0 refl, k .0 e), λ g. k .1 (g .1))
 both-so false q h k = (λ e. absurd (false≢true e), λ g. h .1 (g .0))
 

@@ -1,26 +1,39 @@
--- The answer: it says that all conditions are met exactly when the record of the conditions holds, and the condition that it names is the first
--- that is not met.
+-- All tests are true exactly when the record of the conditions holds. The answer says that all are met exactly then, and the condition that it
+-- names is the first that is not met.
 -- Assumes nothing.
-use mathlib.Core.Path.{_≡_, refl, sym, ap, _∙_}
+use mathlib.Core.Path.{_≡_, refl, sym, ap, ap₂, _∙_}
 use mathlib.Core.Logic.{_↔_, Iff·trans}
-use mathlib.Core.Bool.{Bool, true, false, not, cond}
-use mathlib.Core.List.{List}
-use Prim.Native.Nat.{ℕ, _+_, _≤_, _<_}
+use mathlib.Core.Bool.{Bool, true, false, not, cond, _&&_, true≢false}
+use mathlib.Core.List.{List, [], _∷_}
+use Prim.Native.Nat.{ℕ, zero, suc, _+_, _-_, _≤_, _<_}
+use native.Mathlib.Nat.{not-suc-le-zero, le-of-suc-le-suc}
 use native.Mathlib.Omega.{arith}
 use borrow.Author.Tests.{lt-ltb, ltb-true, ltb-false, not-true, not-false}
 use lib.Dec.{ltb}
+use lib.ListN.{length, getD}
 use Rattle.field.specs.declared.Gf128.{Gf128}
 use Rattle.layout.specs.declared.Asked.the-variants.{Yes}
 use Rattle.layout.specs.Columns.{ONE-COL}
-use Rattle.layout.specs.Questions.{no, passed}
+use Rattle.layout.specs.Questions.{no, passed, both}
 use Rattle.verdict.specs.Row.{cycleOf}
 use Rattle.verdict.specs.Bits.{firstFrom, first-passes, first-least, first-from}
 use Rattle.step.specs.Words.{bitsOf}
 use Rattle.step.specs.Step.{Step}
 use Rattle.step.specs.declared.conditions.StepAnswer.the-variants.{Meets, Unmet, Refused}
 use Rattle.step.specs.Fill.{fillAsked}
-use Rattle.step.specs.Met.{named, firstFalse, firstUnmet, ifAsked, ifInside, stepAnswer}
+use Rattle.step.specs.Met.{wordsOf, flagsOf, conditions, allTrue, named, firstFalse, firstUnmet, ifAsked, ifInside, stepAnswer}
 use Rattle.step.specs.Met.Each as each
+
+-- ---- all of a list, and each
+
+all-at : (ts : List Bool) → allTrue ts ≡ true → (k : ℕ) → k < length ts → getD ts k false ≡ true
+all-at [] e k l = absurd (not-suc-le-zero l)
+all-at (t ∷ ts) e zero l = both t (allTrue ts) e .0
+all-at (t ∷ ts) e (suc k) l = all-at ts (both t (allTrue ts) e .1) k (le-of-suc-le-suc l)
+
+at-all : (ts : List Bool) → ((k : ℕ) → k < length ts → getD ts k false ≡ true) → allTrue ts ≡ true
+at-all [] h = refl
+at-all (t ∷ ts) h = ap₂ _&&_ (h 0 (omega arith)) (at-all ts (λ k l. h (suc k) (omega arith)))
 
 -- which number an answer names
 none-named : (n : ℕ) → named n ≡ Meets → 10 < n
@@ -70,23 +83,26 @@ module _ (b : ℕ → Bool) (output : Gf128) where
   unfolding firstUnmet firstFalse
   all-met e i l m = met-before i l (omega (arith, none-named first e))
 
-  -- it says that all are met exactly when the record holds
-  pub meets-all : (firstUnmet b output ≡ Meets) ↔ Step b output
-  unfolding firstUnmet firstFalse firstFrom
-  meets-all = (
+  abbrev tests : List Bool
+  tests = conditions (wordsOf b) (flagsOf b) output
+
+  -- all tests are true exactly when the record holds
+  pub all-true : (allTrue (conditions (wordsOf b) (flagsOf b) output) ≡ true) ↔ Step b output
+  unfolding conditions
+  all-true = (
     λ e.
-        let m = all-met e in let n = each.each-met b output in
+        let m = all-at tests e in let n = each.each-met b output in
         record {
-          arithmetic = n .arithmetic .0 (m 1 (omega arith) (omega arith));
-          shift = n .shift .0 (m 2 (omega arith) (omega arith));
-          write = n .write .0 (m 3 (omega arith) (omega arith));
-          system = n .system .0 (m 4 (omega arith) (omega arith));
-          load-word = n .load-word .0 (m 5 (omega arith) (omega arith));
-          load-byte = n .load-byte .0 (m 6 (omega arith) (omega arith));
-          load-half = n .load-half .0 (m 7 (omega arith) (omega arith));
-          upper-zero = n .upper-zero .0 (m 8 (omega arith) (omega arith));
-          second-zero = n .second-zero .0 (m 9 (omega arith) (omega arith));
-          address = n .address .0 (m 10 (omega arith) (omega arith));
+          arithmetic = n .arithmetic .0 (m 0 (omega arith));
+          shift = n .shift .0 (m 1 (omega arith));
+          write = n .write .0 (m 2 (omega arith));
+          system = n .system .0 (m 3 (omega arith));
+          load-word = n .load-word .0 (m 4 (omega arith));
+          load-byte = n .load-byte .0 (m 5 (omega arith));
+          load-half = n .load-half .0 (m 6 (omega arith));
+          upper-zero = n .upper-zero .0 (m 7 (omega arith));
+          second-zero = n .second-zero .0 (m 8 (omega arith));
+          address = n .address .0 (m 9 (omega arith));
         },
     λ s.
         let n = each.each-met b output in
@@ -103,6 +119,28 @@ module _ (b : ℕ → Bool) (output : Gf128) where
           n .address .1 (s .address),
         ),
   )
+
+  -- where all are true, the search names none
+  true-meets : allTrue tests ≡ true → named first ≡ Meets
+  unfolding conditions
+  true-meets e = go (ltb first 11) refl
+    where
+      go : (t : Bool) → ltb first 11 ≡ t → cond t (Unmet first) Meets ≡ Meets
+      go true q =
+          let l = ltb-true first 11 q in
+          absurd (true≢false (sym (all-at tests e (first - 1) (omega (arith, first-from fails 10 1))) ∙ not-true (met first) (first-passes fails 10 1 l)))
+      go false q = refl
+
+  -- it says that all are met exactly when the record holds
+  pub meets-all : (firstUnmet b output ≡ Meets) ↔ Step b output
+  unfolding firstUnmet firstFalse conditions
+  meets-all =
+      Iff·trans (
+        λ e. at-all tests (λ k l. let s : k ≡ k + 1 - 1 = omega arith in
+            ap (λ (j : ℕ). getD tests j false) s ∙ all-met e (k + 1) (omega arith) (omega arith)),
+        true-meets,
+      )
+      all-true
 
 -- ---- as it is called, where the questions were answered with yes
 
