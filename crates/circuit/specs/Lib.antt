@@ -9,3 +9,4 @@ pub mod Search
 pub mod Reader
 pub mod Batched
 pub mod House
+pub mod Compared

@@ -10,9 +10,10 @@ use native.Mathlib.Omega.{arith}
 use lib.Bits.{bitOr}
 use lib.ListN.{length, getD, set, length-set}
 use lib.Seq.{getD-set-same, getD-set-other}
+use Rattle.circuit.specs.Compared.{or-none}
 use Rattle.packed.specs.Packed.{stacked, lowAt, packedWord}
 use Rattle.packed.specs.Stacked.{pushed, push-on, again, alone}
-use Rattle.packed.specs.Seen.{BitAt, or-none, Seen, seen-none, seen-more, seen-bits}
+use Rattle.packed.specs.Seen.{BitAt, Seen, seen-none, seen-more, seen-bits}
 
 -- ---- four columns, whose words stand s apart, of cycles whose words stand 2 apart
 

@@ -23,8 +23,9 @@ use Rattle.circuit.specs.Families.{length-from, getD-from}
 use Rattle.verdict.specs.Row.{elementAt}
 use Rattle.packed.specs.declared.Packing.{Packing}
 use Rattle.packed.specs.declared.Packing.the-variants.{Bits, NotBits}
+use Rattle.circuit.specs.Compared.{or-none}
 use Rattle.packed.specs.Packed.{PackCalled, packCalled, packedWord, namedWord, packedAt, packedNamed, bitsFrom, namedBits}
-use Rattle.packed.specs.Seen.{BitAt, bit-words-are, or-none}
+use Rattle.packed.specs.Seen.{BitAt, bit-words-are}
 use Rattle.packed.specs.Columns.{BitsIn}
 use Rattle.packed.specs.Ranges.{RangeIn, Ranged}
 

@@ -9,8 +9,8 @@ use native.Mathlib.Omega.{arith}
 use lib.Bits.{bitOr}
 use lib.ListN.{length, getD, set, length-set, replicate, length-replicate, getD-replicate, List·getD-eq-default}
 use lib.Seq.{getD-set-same, getD-set-other}
+use Rattle.circuit.specs.Compared.{or-none}
 use Rattle.packed.specs.Packed.{packedWord}
-use Rattle.packed.specs.Seen.{or-none}
 use Rattle.packed.specs.Columns.{BitsIn, bits-joined, WordPut}
 
 -- ---- word k of the first n cycles put into its places

@@ -19,6 +19,7 @@ use Rattle.field.specs.Gf.Tests.{odd, isBit-bit, isBit-true}
 use Rattle.field.specs.Gf.Coefficient.{zero-or-one}
 use Rattle.field.specs.Sums.{digit}
 use Rattle.field.specs.Sums.Laws.{digit-lt}
+use Rattle.circuit.specs.Compared.{or-none}
 use Rattle.verdict.specs.Row.{elementAt}
 
 -- ---- a bit by its words
@@ -51,9 +52,6 @@ or-left a b = omega (arith, or-add-and a b, and-le-r a b)
 
 pub or-right : (a b : ℕ) → b ≤ bitOr a b
 or-right a b = omega (arith, or-add-and a b, and-le-l a b)
-
-pub or-none : (a b : ℕ) → (bitOr a b ≡ 0) ↔ ((a ≡ 0) × (b ≡ 0))
-or-none a b = (λ e. (omega (arith, e, or-left a b), omega (arith, e, or-right a b)), λ h. omega (arith, h .0, h .1, or-add-and a b))
 
 or-one : (a b : ℕ) → a ≤ 1 → b ≤ 1 → bitOr a b ≤ 1
 or-one a b l m = omega (arith, or-lt 1 a b (omega arith) (omega arith))

@@ -1,0 +1,77 @@
+-- `circuit::is_house` meets its contract: what differs so far is 0 exactly where the words passed are the same.
+-- Assumes nothing.
+use mathlib.Core.Path.{_≡_, sym, ap, subst, _∙_}
+use mathlib.Core.Logic.{_↔_}
+use mathlib.Core.List.{List}
+use mathlib.Core.Bool.{true}
+use Prim.Native.Nat.{ℕ, _-_, _≤_}
+use native.Mathlib.Omega.{arith}
+use lib.Dec.{eqb}
+use lib.ListN.{length}
+use Rattle.circuit.specs.Circuit.{circuitWords}
+use Rattle.circuit.specs.House.{counts}
+use Rattle.circuit.specs.Compared.{SameBelow, compared-none, compared-more, compared-all, other-length}
+use borrow.Author.Needs.{needs}
+use Rattle.circuit.proofs.is_house.Statement.{statement}
+use Rattle.circuit.proofs.is_house.Tie as tie
+
+abbrev Inv-loop : tie.InvT-loop
+Inv-loop listing table different₀ i₀ different i = (i ≤ 3499) × ((different ≡ 0) ↔ SameBelow listing table i)
+
+abbrev μ-loop : tie.MeasureT-loop
+μ-loop listing table different₀ i₀ different i = 3499 - i
+
+returns : tie.Need-returns Inv-loop μ-loop
+returns c = other-length (c .before .before .args .listing .now) circuitWords 3499 (c .if1 .taken) (counts .words)
+
+build-circuit-requires : tie.Need-build-circuit-requires Inv-loop μ-loop
+build-circuit-requires c κs = search needs
+
+loop-holds : tie.Need-loop-holds Inv-loop μ-loop
+loop-holds c = (search needs, compared-none (c .before .before .before .args .listing .now) (c .build-circuit .result))
+
+mul-different : tie.Need-mul-different Inv-loop μ-loop
+mul-different c = omega (arith, c .before .before .before .if1 .left, c .loop-test .taken)
+
+shared-slice-read-different : tie.Need-shared-slice-read-different Inv-loop μ-loop
+shared-slice-read-different c = omega (arith, c .before .before .before .before .if1 .left, c .before .loop-test .taken)
+
+mul-different-2 : tie.Need-mul-different-2 Inv-loop μ-loop
+mul-different-2 c = omega (arith, c .before .before .before .before .if1 .left, c .before .loop-test .taken)
+
+array-read-different : tie.Need-array-read-different Inv-loop μ-loop
+array-read-different c = omega (arith, c .before .before .before .before .if1 .left, c .before .loop-test .taken)
+
+add-i : tie.Need-add-i Inv-loop μ-loop
+add-i c = omega (arith, c .before .before .before .before .if1 .left, c .before .loop-test .taken)
+
+loop-less : tie.Need-loop-less Inv-loop μ-loop
+loop-less c = omega (arith, c .before .before .before .before .if1 .left, c .before .loop-test .taken)
+
+loop-again : tie.Need-loop-again Inv-loop μ-loop
+loop-again c = let l = c .before .before .loop in (omega (arith, c .before .loop-test .taken), compared-more (c .before .before .before .before .before .before .args .listing .now) (c .before .before .before .build-circuit .result) (l .i) (l .different) (l .inv .1))
+
+returns-2 : tie.Need-returns-2 Inv-loop μ-loop
+returns-2 c =
+    let l = c .before .loop in let a = c .before .before .before .before .before .args .listing .now in let e = c .before .before .build-circuit .ensures in
+    compared-all a circuitWords 3499 (l .different) (c .before .before .before .if1 .left) (counts .words)
+    (subst (λ (t : List ℕ). (l .different ≡ 0) ↔ SameBelow a t 3499) e
+    (subst (λ (n : ℕ). (l .different ≡ 0) ↔ SameBelow a (c .before .before .build-circuit .result) n) (omega (arith, l .inv .0, c .loop-test .left)) (l .inv .1)))
+
+pub is-house-spec : {M : Type 1} → statement M
+is-house-spec =
+    tie.close
+    (tie.spec
+    Inv-loop
+    μ-loop
+    returns
+    build-circuit-requires
+    loop-holds
+    mul-different
+    shared-slice-read-different
+    mul-different-2
+    array-read-different
+    add-i
+    loop-less
+    loop-again
+    returns-2)
