@@ -32,6 +32,7 @@ use Rattle.step.specs.Solve.{lacks, Holds}
 use Rattle.step.specs.Determining.{determining, filled-only}
 use Rattle.step.specs.FieldRows.{upToOne}
 use Rattle.step.specs.Filling.{fillerBits, filled}
+use Rattle.step.specs.Placed.{each-word}
 use Rattle.step.specs.Batch.{one-bit, of-bits, filled-cycle}
 use Rattle.step.specs.Demand3.{Premises}
 
@@ -142,22 +143,12 @@ module _ (cs : List ℕ) (n : ℕ) (row : List ℕ) (h : Holding cs n row) (t : 
       by-test c false e = ap (λ (x : Gf128). eqb (low x) 1) (element-is c (eqb-false c (ONE-COL + 1) e)) ∙ low-bit (has cs c)
 
   fit : (i : ℕ) → getD row i 0 < 2 ^ 64
-  fit i = go (i % 2) refl
+  fit = each-word (λ (i : ℕ). getD row i 0 < 2 ^ 64) (λ c. (by-test c (eqb c (ONE-COL + 1)) refl, omega (arith, h .high-word c)))
     where
-      even : (c : ℕ) → getD row (2 * c) 0 < 2 ^ 64
-      even c = by-test (eqb c (ONE-COL + 1)) refl
-        where
-          by-test : (k : Bool) → eqb c (ONE-COL + 1) ≡ k → getD row (2 * c) 0 < 2 ^ 64
-          by-test true e =
-              subst (λ (k : ℕ). getD row (2 * k) 0 < 2 ^ 64) (sym (eqb-true c (ONE-COL + 1) e)) (omega (arith, h .output, ltb-true n (2 ^ 64) (t .word)))
-          by-test false e = omega (arith, h .low-word c (eqb-false c (ONE-COL + 1) e), digit-lt (has cs c))
-
-      go : (r : ℕ) → i % 2 ≡ r → getD row i 0 < 2 ^ 64
-      go zero q = let e : 2 * (i / 2) ≡ i = omega arith in subst (λ (k : ℕ). getD row k 0 < 2 ^ 64) e (even (i / 2))
-      go (suc zero) q =
-          let e : 2 * (i / 2) + 1 ≡ i = omega arith in
-          subst (λ (k : ℕ). getD row k 0 < 2 ^ 64) e (omega (arith, h .high-word (i / 2)))
-      go (suc (suc r)) q = absurd (omega arith)
+      by-test : (c : ℕ) (k : Bool) → eqb c (ONE-COL + 1) ≡ k → getD row (2 * c) 0 < 2 ^ 64
+      by-test c true e =
+          subst (λ (k : ℕ). getD row (2 * k) 0 < 2 ^ 64) (sym (eqb-true c (ONE-COL + 1) e)) (omega (arith, h .output, ltb-true n (2 ^ 64) (t .word)))
+      by-test c false e = omega (arith, h .low-word c (eqb-false c (ONE-COL + 1) e), digit-lt (has cs c))
 
   pub premises : Premises 1 row
   unfolding cycleOf

@@ -120,17 +120,18 @@ module _ (cpi : ℕ) (v : ℕ → Bool) (w : List ℕ) where
 
 -- ---- what is a filling
 
+-- what is so of both words of every element is so of every word
+pub each-word : (P : ℕ → Type 0) → ((x : ℕ) → P (2 * x) × P (2 * x + 1)) → (i : ℕ) → P i
+each-word P h i = go (i % 2) refl
+  where
+    go : (r : ℕ) → i % 2 ≡ r → P i
+    go zero q = let e : 2 * (i / 2) ≡ i = omega arith in subst P e (h (i / 2) .0)
+    go (suc zero) q = let e : 2 * (i / 2) + 1 ≡ i = omega arith in subst P e (h (i / 2) .1)
+    go (suc (suc r)) q = absurd (omega arith)
+
 -- equal elements, equal words
 pub by-elements : (u w : List ℕ) → length u ≡ length w → ((x : ℕ) → elementAt u x ≡ elementAt w x) → u ≡ w
-by-elements u w l h = ext-getD 0 u w l (λ i m. go i (i % 2) refl)
-  where
-    same : (x : ℕ) → (getD u (2 * x) 0 ≡ getD w (2 * x) 0) × (getD u (2 * x + 1) 0 ≡ getD w (2 * x + 1) 0)
-    same x = words-injective _ _ _ _ (h x)
-
-    go : (i r : ℕ) → i % 2 ≡ r → getD u i 0 ≡ getD w i 0
-    go i zero q = let e : 2 * (i / 2) ≡ i = omega arith in subst (λ (y : ℕ). getD u y 0 ≡ getD w y 0) e (same (i / 2) .0)
-    go i (suc zero) q = let e : 2 * (i / 2) + 1 ≡ i = omega arith in subst (λ (y : ℕ). getD u y 0 ≡ getD w y 0) e (same (i / 2) .1)
-    go i (suc (suc r)) q = absurd (omega arith)
+by-elements u w l h = ext-getD 0 u w l (λ i m. each-word (λ (k : ℕ). getD u k 0 ≡ getD w k 0) (λ x. words-injective _ _ _ _ (h x)) i)
 
 -- a batch that holds bits v in the derived columns, and elsewhere what another does, is the other's filling with v
 pub is-filling : (cpi : ℕ) (v : ℕ → Bool) (u w : List ℕ) → length w ≡ 8192 * cpi → SameElsewhere cpi u w
