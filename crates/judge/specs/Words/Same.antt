@@ -1,15 +1,20 @@
--- The judgement of packed words is that of the cycle's bits; and it reads no other words than it says.
+-- The judgement of packed words is that of the cycle's bits, and reads no other words than it says; so with every cycle of a batch.
 -- Assumes nothing.
 use mathlib.Core.Path.{_≡_, refl, sym, ap, ap₂, _∙_}
+use mathlib.Core.Logic.{_↔_}
 use mathlib.Core.Bool.{Bool, true, _&&_}
 use mathlib.Core.List.{List, [], _∷_}
-use Prim.Native.Nat.{ℕ, _+_, _*_, _/_, _%_, _^_, _≤_}
+use Prim.Native.Nat.{ℕ, _+_, _*_, _/_, _%_, _^_, _≤_, _<_}
 use native.Mathlib.Omega.{arith}
 use borrow.Author.Tests.{leb-true}
 use lib.Dec.{eqb, leb}
 use Rattle.field.specs.declared.Gf128.{Gf128}
+use Rattle.layout.specs.Columns.{ONE-COL}
+use Rattle.layout.specs.Batch.{columnAt}
+use Rattle.layout.specs.Mapping.{public-column}
 use Rattle.layout.specs.Questions.{both}
-use Rattle.step.specs.Words.{word}
+use Rattle.verdict.specs.Row.{elementAt, cycleOf}
+use Rattle.step.specs.Words.{bitsOf, word}
 use Rattle.step.specs.declared.derive.GivenWords.{GivenWords}
 use Rattle.step.specs.declared.derive.DerivedWords.{DerivedWords}
 use Rattle.step.specs.declared.conditions.StepWords.{StepWords}
@@ -18,8 +23,9 @@ use Rattle.step.specs.Fill.Blocks.{Block}
 use Rattle.step.specs.Fill.Words.{derivedWords, blocks}
 use Rattle.step.specs.Met.{wordsOf, flagsIn, conditions, allTrue}
 use Rattle.step.specs.Met.Read.{opcode-in, flags-in}
-use Rattle.judge.specs.Judged.{givenOf, allWritten, judgedCycle}
-use Rattle.judge.specs.Words.{readWord, stepIn, givenIn, sameBits, allWrittenIn, judgedWords}
+use Rattle.judge.specs.Judged.{givenOf, allWritten, judgedCycle, JudgedYes}
+use Rattle.judge.specs.Words.{readWord, wordsFrom, stepIn, givenIn, sameBits, allWrittenIn, judgedWords, allJudged}
+use Rattle.judge.specs.Words.Walk.{all-judged}
 
 -- every block lies in one word, and in one that is read
 abbrev inWords : List Block → Bool
@@ -85,3 +91,22 @@ module _ (b : ℕ → Bool) where
   pub judged-same : (ws : ℕ → ℕ) → ((k : ℕ) → readWord k ≡ true → ws k ≡ word b (64 * k) 64) → (output : Gf128)
       → judgedWords ws output ≡ judgedCycle b output
   judged-same ws h output = judged-agree ws packed h output ∙ judged-packed output
+
+-- ---- a batch whose cycles are packed, 32 words each
+
+pub packed-batch : (cpi : ℕ) (batch list : List ℕ)
+    → ((d k : ℕ) → d < cpi → readWord k ≡ true → wordsFrom list (32 * d) k ≡ word (bitsOf cpi batch d) (64 * k) 64)
+    → (allJudged list (elementAt batch (2048 * cpi + 1)) cpi 0 ≡ true) ↔ JudgedYes cpi batch
+unfolding cycleOf
+packed-batch cpi batch list h =
+    let output = elementAt batch (2048 * cpi + 1) in let all = all-judged list output cpi in (
+      λ e d l. ap (judgedCycle (bitsOf cpi batch d)) (public d) ∙ sym (same d l) ∙ all .0 e d l,
+      λ y. all .1 (λ d l. same d l ∙ ap (judgedCycle (bitsOf cpi batch d)) (sym (public d)) ∙ y d l),
+    )
+  where
+    public : (d : ℕ) → elementAt batch (columnAt cpi (ONE-COL + 1) d) ≡ elementAt batch (2048 * cpi + 1)
+    public d = ap (elementAt batch) (public-column cpi (ONE-COL + 1) d (omega arith) ∙ omega arith)
+
+    same : (d : ℕ) → d < cpi
+        → judgedWords (wordsFrom list (32 * d)) (elementAt batch (2048 * cpi + 1)) ≡ judgedCycle (bitsOf cpi batch d) (elementAt batch (2048 * cpi + 1))
+    same d l = judged-same (bitsOf cpi batch d) (wordsFrom list (32 * d)) (λ k t. h d k l t) (elementAt batch (2048 * cpi + 1))
