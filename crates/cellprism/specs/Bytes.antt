@@ -13,3 +13,7 @@ numberOf (b ∷ bytes) = b + 256 * numberOf bytes
 unfoldable pub wordsOf : ℕ → List ℕ → List ℕ
 wordsOf zero bytes = []
 wordsOf (suc n) bytes = numberOf (take 8 bytes) ∷ wordsOf n (drop 8 bytes)
+
+-- the row of 65,536 bytes: the 8,192 words of a batch of one cycle
+abbrev pub rowOf : List ℕ → List ℕ
+rowOf bytes = wordsOf 8192 bytes

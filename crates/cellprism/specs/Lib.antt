@@ -1,4 +1,5 @@
 pub mod Bytes
+pub mod Packing
 pub mod Answer
 pub mod Exact
 pub mod Back

@@ -21,7 +21,7 @@ fn half_at(bytes: &[u8], at: usize) -> u64
     a + 256 * (b + 256 * (c + 256 * d))
 }
 
-fn word_at(bytes: &[u8], at: usize) -> u64
+pub fn word_at(bytes: &[u8], at: usize) -> u64
     requires { ⌜ at + 8 ≤ length (now bytes) ⌝ }
     ensures { λ r. ⌜ r ≡ numberOf (take 8 (drop at (now (bytes .entry)))) ⌝ }
 {

@@ -35,7 +35,7 @@ use Rattle.step.specs.Words.{bitsOf}
 use Rattle.step.specs.Filling.{putEach}
 use Rattle.step.specs.Placed.{each-length, each-other, each-here}
 use Rattle.judge.specs.Judged.{judgedCycle, JudgedYes}
-use Rattle.judge.specs.Words.{readWord}
+use Rattle.packed.specs.Packed.{namedWord}
 use Rattle.judge.specs.Judges.{OverBits, bits-fit, judges}
 
 -- the columns that rows name: those of their terms, but for terms of coefficient zero, which count as 0 whatever stands in the column
@@ -62,7 +62,7 @@ over-named cpi batch o =
 -- ---- a column that is named and not public lies in a word that is read
 
 abbrev readOrPublic : ℕ → Bool
-readOrPublic c = leb 2048 c || readWord (c / 64)
+readOrPublic c = leb 2048 c || namedWord (c / 64)
 
 allReadOrPublic : List ℕ → Bool
 allReadOrPublic [] = true
@@ -78,10 +78,10 @@ unfolding allReadOrPublic
 each-read [] t = tt
 each-read (c ∷ cs) t = let p = both (readOrPublic c) (allReadOrPublic cs) t in (p .0, each-read cs (p .1))
 
-pub named-packed : (c : ℕ) → named c ≡ true → c < 2048 → readWord (c / 64) ≡ true
+pub named-packed : (c : ℕ) → named c ≡ true → c < 2048 → namedWord (c / 64) ≡ true
 unfolding named
 named-packed c e l =
-    ap (λ (t : Bool). t || readWord (c / 64)) (sym (lt-leb 2048 c l))
+    ap (λ (t : Bool). t || namedWord (c / 64)) (sym (lt-leb 2048 c l))
     ∙ among-each (λ x. readOrPublic x ≡ true) (namedColumns circuitRows) (each-read (namedColumns circuitRows) named-read) c e
 
 -- ---- cycles that agree on every column that is named: every row holds alike

@@ -1,12 +1,12 @@
--- A cycle judged from packed words: word k has columns 64 k to 64 k + 63. The laws are in Walk, of the blocks and of cycle after cycle, and in
+-- A cycle judged from packed words: word k has columns 64 k to 64 k + 63, and no word but the named ones is read. The laws are in Walk, of the blocks and of cycle after cycle, and in
 -- Same: it is the judgement of the bits.
 -- Assumes nothing.
 pub mod Walk
 pub mod Same
-use mathlib.Core.Bool.{Bool, true, not, _&&_}
+use mathlib.Core.Bool.{Bool, true, _&&_}
 use mathlib.Core.List.{List, [], _∷_}
 use Prim.Native.Nat.{ℕ, zero, suc, _+_, _*_, _/_, _%_, _^_}
-use lib.Dec.{eqb, ltb}
+use lib.Dec.{eqb}
 use lib.ListN.{getD}
 use Rattle.field.specs.declared.Gf128.{Gf128}
 use Rattle.step.specs.declared.derive.GivenWords.{GivenWords}
@@ -14,10 +14,6 @@ use Rattle.step.specs.declared.conditions.StepWords.{StepWords}
 use Rattle.step.specs.Fill.Blocks.{Block}
 use Rattle.step.specs.Fill.Words.{derivedWords, blocks}
 use Rattle.step.specs.Met.{flagsIn, conditions, allTrue}
-
--- which words are read: 0 to 14, 16 and 17
-abbrev pub readWord : ℕ → Bool
-readWord k = ltb k 18 && not (eqb k 15)
 
 -- the words of a list from a place on
 abbrev pub wordsFrom : List ℕ → ℕ → ℕ → ℕ

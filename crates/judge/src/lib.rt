@@ -1,10 +1,16 @@
-// Cycles judged from packed words, with no listing read.
+// Batches judged from packed words: the check with no listing read where a batch is accepted, and the plain walk where it is not.
 mod cycle;
+mod short;
 
 use crate::cycle::judge_cycle;
+use crate::short::short_row;
+use crate::short::short_yes;
 use field::Gf128;
+use verdict::CheckAnswer;
+use verdict::Verdict;
 ghost use mathlib.Core.Path.{_≡_};
 ghost use lib.ListN.{getD};
+ghost use Rattle.verdict.specs.Check.{Checked, checked, houseChecked};
 ghost use Rattle.judge.specs.Words.{judgedWords};
 
 // One cycle: word k has columns 64 k to 64 k + 63, and `output` is the public element behind the one column.
@@ -12,4 +18,25 @@ pub fn judge_words(words: &[u64; 32], output: Gf128) -> bool
     ensures { λ r. ⌜ r ≡ judgedWords (λ k. getD (now (words .entry)) k 0) output ⌝ }
 {
     judge_cycle(words, 0, output)
+}
+
+// The check against the house listing, with no listing lent: questions 1 and 2.
+pub fn check_house(cpi: usize, batch: &[u64]) -> CheckAnswer
+    ensures { λ r. ⌜ r ≡ houseChecked cpi (now (batch .entry)) ⌝ }
+{
+    if short_yes(cpi, batch) {
+        return CheckAnswer::Judged(Verdict::Accepted { rows: 514 * cpi });
+    }
+    verdict::check_house(cpi, batch)
+}
+
+// The check against a listing that is lent: questions 1, 2, 5, and 6 to 10.
+pub fn check_row(cpi: usize, listing: &[u32], batch: &[u64], scratch: &mut [u64]) -> CheckAnswer
+    ensures { λ r. ⌜ _≡_ {A = Checked} (record { answer = r; scratch = now (scratch .exit) }) (checked cpi (now (listing .entry)) (now (batch .entry)) (now (scratch .entry))) ⌝ }
+{
+    if short_row(cpi, listing, batch, scratch.len()) {
+        verdict::clear(scratch);
+        return CheckAnswer::Judged(Verdict::Accepted { rows: 514 * cpi });
+    }
+    verdict::check_row(cpi, listing, batch, scratch)
 }

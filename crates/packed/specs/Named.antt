@@ -166,3 +166,12 @@ module _ (cpi : ℕ) (batch out : List ℕ) (size : allowed cpi ≡ true) (words
       not-true-false : (t : Bool) → (t ≡ true → ⊥) → t ≡ false
       not-true-false true g = absurd (g refl)
       not-true-false false g = refl
+
+-- what the call says, read back where the questions are passed
+pub called-is : (cpi : ℕ) (batch out : List ℕ) → NamedIn cpi batch out → {a : Packing} {after : List ℕ}
+    → _≡_ {A = PackCalled} (record { answer = a; out = after }) (packCalled cpi batch out)
+    → (a ≡ cond (namedBits cpi batch) Bits NotBits) × (after ≡ packedNamed cpi batch out)
+unfolding packCalled
+called-is cpi batch out h e =
+    let f = e ∙ sym (passed _ _ _ (eq-eqb (length out) (32 * cpi) (h .room)) ∙ passed _ _ _ (eq-eqb (length batch) (8192 * cpi) (h .words)) ∙ passed _ _ _ (h .size)) in
+    (ap (λ (q : PackCalled). q .answer) f, ap (λ (q : PackCalled). q .out) f)

@@ -1,6 +1,6 @@
 -- A batch of one cycle, whose columns stand one after the other: its words in quarters of quarters.
 -- Assumes nothing.
-use mathlib.Core.Path.{_≡_, refl, sym, ap, subst, _∙_}
+use mathlib.Core.Path.{_≡_, refl, sym, ap, ap₂, subst, _∙_}
 use mathlib.Core.Logic.{_↔_}
 use mathlib.Core.List.{List}
 use Prim.Native.Nat.{ℕ, zero, suc, _+_, _*_, _-_, _%_, _^_, _≤_, _<_}
@@ -41,6 +41,12 @@ four-columns b i e = e ∙ of-four b i 1 _ _ _ _ (column i) (column (i + 2)) (co
   where
     column : (j : ℕ) → Quarter b j 1 (getD b j 0)
     column j = alone (lowFrom b j) 0 (ap (λ (y : ℕ). getD b y 0) (omega arith))
+
+-- of words that were read
+pub four-words : (b : List ℕ) (i : ℕ) {r p q s t : ℕ} → p ≡ getD b i 0 → q ≡ getD b (i + 2) 0 → s ≡ getD b (i + 4) 0 → t ≡ getD b (i + 6) 0
+    → r ≡ pushedFour 1 p q s t → r ≡ rowSum b i 4
+four-words b i {p = p} {q = q} {s = s} {t = t} ep eq es et e =
+    four-columns b i (e ∙ ap₂ (λ (x y : ℕ). pushedFour 1 x y s t) ep eq ∙ ap₂ (λ (x y : ℕ). pushedFour 1 (getD b i 0) (getD b (i + 2) 0) x y) es et)
 
 -- four sums of m columns each
 pub four-sums : (b : List ℕ) (i m : ℕ) {r p q s t : ℕ} → p ≡ rowSum b i m → q ≡ rowSum b (i + 2 * m) m → s ≡ rowSum b (i + 2 * (m + m)) m

@@ -89,6 +89,13 @@ module _ (b : List ℕ) (place : ℕ → ℕ) where
       most x (no g) l =
           let m = s .most x (omega arith) in (le-trans (m .0) (or-left low (getD b i 0)), le-trans (m .1) (or-left high (getD b j 0)))
 
+  -- of words that were read
+  pub seen-next : (n low high : ℕ) {x y : ℕ} → x ≡ getD b (place n) 0 → y ≡ getD b (place n + 1) 0 → Seen b place n low high
+      → Seen b place (n + 1) (bitOr low x) (bitOr high y)
+  seen-next n low high {x} {y} e f s =
+      subst (λ (z : ℕ). Seen b place (n + 1) (bitOr low z) (bitOr high y)) (sym e)
+      (subst (λ (z : ℕ). Seen b place (n + 1) (bitOr low (getD b (place n) 0)) (bitOr high z)) (sym f) (seen-more n low high (place n) (place n + 1) refl refl s))
+
   -- the test: no low word above 1, no high word above 0
   pub seen-bits : (n low high : ℕ) → Seen b place n low high → (bitOr (low / 2) high ≡ 0) ↔ ((x : ℕ) → x < n → BitAt b (place x))
   seen-bits n low high s = (

@@ -24,13 +24,14 @@ use Rattle.step.specs.Fill.Words.{derivedWords, blocks}
 use Rattle.step.specs.Met.{wordsOf, flagsIn, conditions, allTrue}
 use Rattle.step.specs.Met.Read.{opcode-in, flags-in}
 use Rattle.judge.specs.Judged.{givenOf, allWritten, judgedCycle, JudgedYes}
-use Rattle.judge.specs.Words.{readWord, wordsFrom, stepIn, givenIn, sameBits, allWrittenIn, judgedWords, allJudged}
+use Rattle.packed.specs.Packed.{namedWord}
+use Rattle.judge.specs.Words.{wordsFrom, stepIn, givenIn, sameBits, allWrittenIn, judgedWords, allJudged}
 use Rattle.judge.specs.Words.Walk.{all-judged}
 
 -- every block lies in one word, and in one that is read
 abbrev inWords : List Block → Bool
 inWords [] = true
-inWords (k ∷ ks) = leb (k .column % 64 + k .width) 64 && (readWord (k .column / 64) && inWords ks)
+inWords (k ∷ ks) = leb (k .column % 64 + k .width) 64 && (namedWord (k .column / 64) && inWords ks)
 
 -- by one computed test
 blocks-in-words : (g : GivenWords) (w : DerivedWords) → inWords (blocks g w) ≡ true
@@ -38,12 +39,12 @@ blocks-in-words g w = refl
 
 -- ---- words that agree wherever one is read
 
-module _ (ws vs : ℕ → ℕ) (h : (k : ℕ) → readWord k ≡ true → ws k ≡ vs k) where
+module _ (ws vs : ℕ → ℕ) (h : (k : ℕ) → namedWord k ≡ true → ws k ≡ vs k) where
   written-agree : (ks : List Block) → inWords ks ≡ true → allWrittenIn ws ks ≡ allWrittenIn vs ks
   written-agree [] t = refl
   written-agree (k ∷ ks) t =
-      let p = both (leb (k .column % 64 + k .width) 64) (readWord (k .column / 64) && inWords ks) t in
-      let q = both (readWord (k .column / 64)) (inWords ks) (p .1) in
+      let p = both (leb (k .column % 64 + k .width) 64) (namedWord (k .column / 64) && inWords ks) t in
+      let q = both (namedWord (k .column / 64)) (inWords ks) (p .1) in
       ap₂ _&&_
       (ap (λ (w : ℕ). sameBits (k .column % 64) (k .width) w (k .word)) (h (k .column / 64) (q .0)))
       (written-agree ks (q .1))
@@ -71,8 +72,8 @@ module _ (b : ℕ → Bool) where
   written-packed : (ks : List Block) → inWords ks ≡ true → allWrittenIn packed ks ≡ allWritten b ks
   written-packed [] t = refl
   written-packed (k ∷ ks) t =
-      let p = both (leb (k .column % 64 + k .width) 64) (readWord (k .column / 64) && inWords ks) t in
-      let q = both (readWord (k .column / 64)) (inWords ks) (p .1) in
+      let p = both (leb (k .column % 64 + k .width) 64) (namedWord (k .column / 64) && inWords ks) t in
+      let q = both (namedWord (k .column / 64)) (inWords ks) (p .1) in
       ap₂ _&&_ (ap (λ (x : ℕ). eqb x (k .word % 2 ^ k .width)) (part (k .column) (k .width) (leb-true _ _ (p .0)))) (written-packed ks (q .1))
     where
       part : (c n : ℕ) → c % 64 + n ≤ 64 → packed (c / 64) / 2 ^ (c % 64) % 2 ^ n ≡ word b c n
@@ -88,14 +89,14 @@ module _ (b : ℕ → Bool) where
       (ap₂ (λ s f. allTrue (conditions s f output)) step-packed (flags-in b))
       (written-packed (blocks (givenOf b) (derivedWords (givenOf b))) (blocks-in-words (givenOf b) (derivedWords (givenOf b))))
 
-  pub judged-same : (ws : ℕ → ℕ) → ((k : ℕ) → readWord k ≡ true → ws k ≡ word b (64 * k) 64) → (output : Gf128)
+  pub judged-same : (ws : ℕ → ℕ) → ((k : ℕ) → namedWord k ≡ true → ws k ≡ word b (64 * k) 64) → (output : Gf128)
       → judgedWords ws output ≡ judgedCycle b output
   judged-same ws h output = judged-agree ws packed h output ∙ judged-packed output
 
 -- ---- a batch whose cycles are packed, 32 words each
 
 pub packed-batch : (cpi : ℕ) (batch list : List ℕ)
-    → ((d k : ℕ) → d < cpi → readWord k ≡ true → wordsFrom list (32 * d) k ≡ word (bitsOf cpi batch d) (64 * k) 64)
+    → ((d k : ℕ) → d < cpi → namedWord k ≡ true → wordsFrom list (32 * d) k ≡ word (bitsOf cpi batch d) (64 * k) 64)
     → (allJudged list (elementAt batch (2048 * cpi + 1)) cpi 0 ≡ true) ↔ JudgedYes cpi batch
 unfolding cycleOf
 packed-batch cpi batch list h =

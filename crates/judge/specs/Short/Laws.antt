@@ -1,0 +1,198 @@
+-- What the short way says yes to, the check accepts; and its words are those that are packed.
+-- Assumes nothing.
+use mathlib.Core.Path.{_≡_, refl, sym, ap, ap₂, subst, _∙_}
+use mathlib.Core.Bool.{Bool, true, false, cond, _&&_}
+use mathlib.Core.List.{List, _∷_}
+use Prim.Native.Nat.{ℕ, zero, suc, _+_, _*_, _/_, _%_, _^_, _≤_, _<_}
+use native.Mathlib.Nat.{zero-add}
+use native.Mathlib.Omega.{arith}
+use borrow.Author.Tests.{eqb-true, eq-eqb}
+use lib.Dec.{eqb}
+use lib.ListN.{length, getD, take, replicate, length-replicate}
+use Rattle.field.specs.declared.Gf128.{Gf128}
+use Rattle.field.specs.Gf.{one, same}
+use Rattle.field.specs.Gf.Tests.{same-true}
+use Rattle.layout.specs.declared.Refusal.{Refusal}
+use Rattle.layout.specs.declared.Asked.{Asked}
+use Rattle.layout.specs.declared.Asked.the-variants.{Yes}
+use Rattle.layout.specs.Batch.{allowed}
+use Rattle.layout.specs.Sizes.{allowed-range}
+use Rattle.layout.specs.Questions.{passed, both}
+use Rattle.circuit.specs.Circuit.{circuitWords}
+use Rattle.circuit.specs.Families.{length-from, getD-from}
+use Rattle.circuit.specs.House.{in-order}
+use Rattle.circuit.specs.Valid.{validated}
+use Rattle.verdict.specs.declared.Verdict.{Verdict}
+use Rattle.verdict.specs.declared.Verdict.the-variants.{Accepted}
+use Rattle.verdict.specs.declared.CheckAnswer.the-variants.{Judged}
+use Rattle.verdict.specs.Row.{elementAt}
+use Rattle.verdict.specs.Check.{Checked, after, asked, judged, checked, houseChecked}
+use Rattle.packed.specs.declared.Packing.{Packing}
+use Rattle.packed.specs.declared.Packing.the-variants.{Bits, NotBits, Refused}
+use Rattle.packed.specs.Packed.{PackCalled, packCalled, packedWord, namedWord, packedAt, packedNamed, namedBits}
+use Rattle.packed.specs.Named.{NamedIn, called-is}
+use Rattle.packed.specs.Seen.{bit-words-are}
+use Rattle.packed.specs.Words.{named-range, column-bit, packed-word}
+use Rattle.judge.specs.Judged.{JudgedYes}
+use Rattle.judge.specs.Words.{wordsFrom, allJudged}
+use Rattle.judge.specs.Words.Same.{packed-batch}
+use Rattle.judge.specs.Named.{named, NamedBits, named-packed, judges-named}
+use Rattle.judge.specs.Short.{shortBits, shortYes, ShortIn, ShortRow}
+
+-- ---- the words of a packed slice are the cycles' own
+
+packed-at : (cpi : ℕ) (batch out : List ℕ) → length out ≡ 32 * cpi → (d k : ℕ) → d < cpi → namedWord k ≡ true
+    → wordsFrom (packedNamed cpi batch out) (32 * d) k ≡ packedWord cpi batch d k
+unfolding packedNamed
+packed-at cpi batch out room d k l e =
+    let r = named-range k e in
+    let quotient : (32 * d + k) / 32 ≡ d = omega (arith, r .0) in let rest : (32 * d + k) % 32 ≡ k = omega (arith, r .0) in
+    getD-from (packedAt cpi batch out) 0 (length out) 0 (32 * d + k) (omega (arith, room, r .0))
+    ∙ ap (packedAt cpi batch out) (zero-add (32 * d + k))
+    ∙ ap₂ (λ (x j : ℕ). cond (namedWord j) (packedWord cpi batch x j) (getD out (32 * d + k) 0)) quotient rest
+    ∙ ap (λ (t : Bool). cond t (packedWord cpi batch d k) (getD out (32 * d + k) 0)) e
+
+-- ---- a yes
+
+pub record Parts (cpi : ℕ) (batch : List ℕ) : Type 0 where
+  pub size : allowed cpi ≡ true
+  pub words : length batch ≡ 8192 * cpi
+  pub one-is : elementAt batch (2048 * cpi) ≡ one
+  pub bits : namedBits cpi batch ≡ true
+  pub cycles : allJudged (packedNamed cpi batch (replicate (32 * cpi) 0)) (elementAt batch (2048 * cpi + 1)) cpi 0 ≡ true
+
+parts : (cpi : ℕ) (batch : List ℕ) → shortYes cpi batch ≡ true → Parts cpi batch
+unfolding shortYes shortBits
+parts cpi batch e =
+    let a = both _ _ e in let b = both _ _ (a .1) in let c = both _ _ (b .1) in let d = both _ _ (c .1) in
+    record { size = a .0; words = eqb-true _ _ (b .0); one-is = same-true _ _ (c .0); bits = d .0; cycles = d .1 }
+
+-- a word of the code has 64 bits
+pub short-accepts : (cpi : ℕ) (batch : List ℕ) → ((i : ℕ) → getD batch i 0 < 2 ^ 64) → shortYes cpi batch ≡ true
+    → judged cpi circuitWords batch ≡ Accepted (514 * cpi)
+short-accepts cpi batch fit e = judges-named cpi (p .size) batch named-bits .0 yes
+  where
+    p : Parts cpi batch
+    p = parts cpi batch e
+
+    some : 0 < cpi
+    some = allowed-range cpi (p .size) .0
+
+    named-bits : NamedBits cpi batch
+    named-bits =
+        record {
+          words = p .words;
+          fit = fit;
+          bits = λ c d l n m. bit-words-are batch (c * cpi + d) .1 (column-bit cpi some batch (p .bits) c d (named-packed c n l) m);
+          one-is = p .one-is;
+        }
+
+    yes : JudgedYes cpi batch
+    yes =
+        packed-batch cpi batch (packedNamed cpi batch (replicate (32 * cpi) 0))
+        (λ d k l t. packed-at cpi batch (replicate (32 * cpi) 0) (length-replicate (32 * cpi) 0) d k l t ∙ packed-word cpi some batch (p .bits) d l k t)
+        .0
+        (p .cycles)
+
+-- ---- as the entries have it
+
+pub house-short : (cpi : ℕ) (batch : List ℕ) → ((i : ℕ) → getD batch i 0 < 2 ^ 64) → shortYes cpi batch ≡ true
+    → Judged (Accepted (514 * cpi)) ≡ houseChecked cpi batch
+unfolding houseChecked
+house-short cpi batch fit e =
+    let p = parts cpi batch e in
+    ap Judged (sym (short-accepts cpi batch fit e)) ∙ passed _ _ _ (eq-eqb (length batch) (8192 * cpi) (p .words)) ∙ passed _ _ _ (p .size)
+
+pub row-short : (cpi : ℕ) (listing batch scratch : List ℕ) → ((i : ℕ) → getD batch i 0 < 2 ^ 64) → ShortRow cpi listing batch (length scratch)
+    → _≡_ {A = Checked} (record { answer = Judged (Accepted (514 * cpi)); scratch = replicate (length scratch) 0 }) (checked cpi listing batch scratch)
+unfolding checked asked
+row-short cpi listing batch scratch fit h =
+    let p = parts cpi batch (h .yes) in
+    ap (λ (v : Verdict). after Yes v scratch) (sym (short-accepts cpi batch fit (h .yes)) ∙ ap (λ (ws : List ℕ). judged cpi ws batch) (sym (h .house)))
+    ∙ ap (λ (q : Asked). after q (judged cpi listing batch) scratch)
+    (sym in-order ∙ ap validated (sym (h .house))
+    ∙ passed _ _ _ (eq-eqb (length scratch) 3072 (h .scratch)) ∙ passed _ _ _ (eq-eqb (length batch) (8192 * cpi) (p .words)) ∙ passed _ _ _ (p .size))
+
+pub short-few : (cpi : ℕ) (batch : List ℕ) → shortYes cpi batch ≡ true → cpi ≤ 256
+short-few cpi batch e = allowed-range cpi (parts cpi batch e .size) .1
+
+-- ---- by what the packing answers
+
+kind : Packing → ℕ
+kind Bits = 0
+kind NotBits = 1
+kind (Refused r) = 2
+
+module _ (cpi : ℕ) (batch out : List ℕ) (h : NamedIn cpi batch out) where
+  pub of-bits : {a : Packing} {after : List ℕ} {x : Gf128} {r : Bool}
+      → _≡_ {A = PackCalled} (record { answer = a; out = after }) (packCalled cpi batch out) → a ≡ Bits → x ≡ elementAt batch (2048 * cpi + 1)
+      → r ≡ allJudged after x cpi 0 → r ≡ shortBits cpi batch out
+  unfolding shortBits kind
+  of-bits {after = after} {x = x} e b f j =
+      let p = called-is cpi batch out h e in
+      j ∙ ap₂ (λ (u : List ℕ) (y : Gf128). allJudged u y cpi 0) (p .1) f
+      ∙ ap (λ (t : Bool). t && allJudged (packedNamed cpi batch out) (elementAt batch (2048 * cpi + 1)) cpi 0) (sym (bits-are (namedBits cpi batch) (sym (p .0) ∙ b)))
+    where
+      bits-are : (t : Bool) → cond t Bits NotBits ≡ Bits → t ≡ true
+      bits-are true e = refl
+      bits-are false e = let z : _≡_ {A = ℕ} 1 0 = ap kind e in absurd (omega arith)
+
+  pub packed-room : {a : Packing} {after : List ℕ} → _≡_ {A = PackCalled} (record { answer = a; out = after }) (packCalled cpi batch out)
+      → length after ≡ 32 * cpi
+  unfolding packedNamed
+  packed-room e = ap length (called-is cpi batch out h e .1) ∙ length-from (packedAt cpi batch out) (length out) 0 ∙ h .room
+
+  -- anything else is a no
+  pub not-of-bits : {a : Packing} {after : List ℕ} → _≡_ {A = PackCalled} (record { answer = a; out = after }) (packCalled cpi batch out)
+      → (a ≡ Bits → ⊥) → false ≡ shortBits cpi batch out
+  unfolding shortBits
+  not-of-bits e f =
+      ap (λ (t : Bool). t && allJudged (packedNamed cpi batch out) (elementAt batch (2048 * cpi + 1)) cpi 0) (sym (bits-are-not (namedBits cpi batch) (λ q. f (called-is cpi batch out h e .0 ∙ ap (λ (t : Bool). cond t Bits NotBits) q))))
+    where
+      bits-are-not : (t : Bool) → (t ≡ true → ⊥) → t ≡ false
+      bits-are-not true g = absurd (g refl)
+      bits-are-not false g = refl
+
+pub not-bits : {a : Packing} → a ≡ NotBits → a ≡ Bits → ⊥
+unfolding kind
+not-bits e f = let z : _≡_ {A = ℕ} 1 0 = ap kind (sym e ∙ f) in omega arith
+
+pub refused-bits : {a : Packing} {r : Refusal} → a ≡ Refused r → a ≡ Bits → ⊥
+unfolding kind
+refused-bits e f = let z : _≡_ {A = ℕ} 2 0 = ap kind (sym e ∙ f) in omega arith
+
+-- ---- the tests in their order
+
+module _ (cpi : ℕ) (batch : List ℕ) where
+  pub no-size : allowed cpi ≡ false → false ≡ shortYes cpi batch
+  unfolding shortYes
+  no-size e = rw e
+
+  pub no-words : allowed cpi ≡ true → eqb (length batch) (8192 * cpi) ≡ false → false ≡ shortYes cpi batch
+  unfolding shortYes
+  no-words a e = rw (a, e)
+
+  pub no-one : allowed cpi ≡ true → eqb (length batch) (8192 * cpi) ≡ true → same (elementAt batch (2048 * cpi)) one ≡ false → false ≡ shortYes cpi batch
+  unfolding shortYes
+  no-one a w e = rw (a, w, e)
+
+  pub left-bits : allowed cpi ≡ true → eqb (length batch) (8192 * cpi) ≡ true → same (elementAt batch (2048 * cpi)) one ≡ true
+      → shortBits cpi batch (replicate (32 * cpi) 0) ≡ shortYes cpi batch
+  unfolding shortYes
+  left-bits a w e = rw (a, w, e)
+
+-- a batch of one cycle
+pub of-one : {cpi : ℕ} {batch : List ℕ} → cpi ≡ 1 → ShortIn cpi batch → ShortIn 1 batch
+of-one {batch = b} e h = subst (λ (n : ℕ). ShortIn n b) e h
+
+pub named-in : (cpi : ℕ) (batch : List ℕ) → ShortIn cpi batch → (out : List ℕ) → length out ≡ 32 * cpi → NamedIn cpi batch out
+named-in cpi batch h out e = record { size = h .size; words = h .words; room = e }
+
+pub in-range : (cpi : ℕ) (batch : List ℕ) → ShortIn cpi batch → cpi ≤ 256
+in-range cpi batch h = allowed-range cpi (h .size) .1
+
+-- part of a slice of zeros
+pub zeros-taken : (n m : ℕ) → n ≤ m → _≡_ {A = List ℕ} (take n (replicate m 0)) (replicate n 0)
+zeros-taken zero m l = refl
+zeros-taken (suc n) zero l = absurd (omega arith)
+zeros-taken (suc n) (suc m) l = ap {B = List ℕ} (λ (r : List ℕ). 0 ∷ r) (zeros-taken n m (omega arith))

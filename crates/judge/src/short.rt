@@ -1,0 +1,101 @@
+// The short way: an accepted batch of bits is seen to be one with no listing read. A no says nothing of the batch but that the listing has to be
+// walked.
+use crate::cycle::judge_cycles;
+use field::Gf128;
+use packed::Packing;
+ghost use mathlib.Core.Bool.{true};
+ghost use mathlib.Core.Logic.{_↔_};
+ghost use mathlib.Core.Path.{_≡_};
+ghost use Prim.Native.Nat.{_+_, _*_, _<_};
+ghost use lib.ListN.{length, replicate};
+ghost use Rattle.verdict.specs.Row.{elementAt};
+ghost use Rattle.packed.specs.Named.{NamedIn};
+ghost use Rattle.judge.specs.Short.{shortBits, shortYes, ShortIn, ShortRow};
+
+fn element(batch: &[u64], at: usize) -> Gf128
+    requires { ⌜ 2 * at + 1 < length (now batch) ⌝ }
+    ensures { λ r. ⌜ r ≡ elementAt (now (batch .entry)) at ⌝ }
+{
+    Gf128::of_words(batch[2 * at], batch[2 * at + 1])
+}
+
+// Packs the batch into a slice that is lent, and judges each cycle.
+fn pack_and_judge(cpi: usize, batch: &[u64], out: &mut [u64]) -> bool
+    requires { ⌜ NamedIn cpi (now batch) (now out) ⌝ }
+    ensures { λ r. ⌜ r ≡ shortBits cpi (now (batch .entry)) (now (out .entry)) ⌝ }
+{
+    match packed::pack_named(cpi, batch, out) {
+        Packing::Bits => judge_cycles(cpi, out, element(batch, 2048 * cpi + 1)),
+        Packing::NotBits => false,
+        Packing::Refused(_) => false,
+    }
+}
+
+fn short_one(batch: &[u64]) -> bool
+    requires { ⌜ ShortIn 1 (now batch) ⌝ }
+    ensures { λ r. ⌜ r ≡ shortBits 1 (now (batch .entry)) (replicate 32 0) ⌝ }
+{
+    let mut out = [0u64; 32];
+    pack_and_judge(1, batch, &mut out)
+}
+
+fn short_small(cpi: usize, batch: &[u64]) -> bool
+    requires { ⌜ ShortIn cpi (now batch) × (cpi < 17) ⌝ }
+    ensures { λ r. ⌜ r ≡ shortBits cpi (now (batch .entry)) (replicate (32 * cpi) 0) ⌝ }
+{
+    let mut out = [0u64; 512];
+    let words = 32 * cpi;
+    pack_and_judge(cpi, batch, &mut out[..words])
+}
+
+fn short_large(cpi: usize, batch: &[u64]) -> bool
+    requires { ⌜ ShortIn cpi (now batch) ⌝ }
+    ensures { λ r. ⌜ r ≡ shortBits cpi (now (batch .entry)) (replicate (32 * cpi) 0) ⌝ }
+{
+    let mut out = [0u64; 8192];
+    let words = 32 * cpi;
+    pack_and_judge(cpi, batch, &mut out[..words])
+}
+
+// By the size, so that a small batch clears a small slice.
+fn short_bits(cpi: usize, batch: &[u64]) -> bool
+    requires { ⌜ ShortIn cpi (now batch) ⌝ }
+    ensures { λ r. ⌜ r ≡ shortBits cpi (now (batch .entry)) (replicate (32 * cpi) 0) ⌝ }
+{
+    if cpi == 1 {
+        return short_one(batch);
+    }
+    if cpi < 17 {
+        return short_small(cpi, batch);
+    }
+    short_large(cpi, batch)
+}
+
+// Of a batch against the house listing.
+pub fn short_yes(cpi: usize, batch: &[u64]) -> bool
+    ensures { λ r. ⌜ r ≡ shortYes cpi (now (batch .entry)) ⌝ }
+{
+    if !layout::is_allowed(cpi) {
+        return false;
+    }
+    if batch.len() != 8192 * cpi {
+        return false;
+    }
+    if !element(batch, 2048 * cpi).same(Gf128::one()) {
+        return false;
+    }
+    short_bits(cpi, batch)
+}
+
+// Of a call that lends a listing and scratch.
+pub fn short_row(cpi: usize, listing: &[u32], batch: &[u64], room: usize) -> bool
+    ensures { λ r. ⌜ (r ≡ true) ↔ ShortRow cpi (now (listing .entry)) (now (batch .entry)) room ⌝ }
+{
+    if room != 3072 {
+        return false;
+    }
+    if !circuit::is_house(listing) {
+        return false;
+    }
+    short_yes(cpi, batch)
+}
