@@ -1,3 +1,4 @@
 pub mod Fits
 pub mod Entries
 pub mod FirstSix
+pub mod Ored

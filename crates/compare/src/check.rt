@@ -73,6 +73,26 @@ pub extern "C" fn compare_check_house(cpi: usize, batch: &[u64]) -> u64
     check_number(verdict::check_house(cpi, batch))
 }
 
+// The plain walk, whatever the two above are bound to.
+#[no_mangle]
+pub extern "C" fn compare_check_row_plain(
+    cpi: usize,
+    listing: &[u32],
+    batch: &[u64],
+    scratch: &mut [u64],
+) -> u64
+    ensures { λ r. ⌜ reply r (now (scratch .exit)) ≡ checkReply (checked cpi (now (listing .entry)) (now (batch .entry)) (now (scratch .entry))) ⌝ }
+{
+    check_number(verdict::check_row(cpi, listing, batch, scratch))
+}
+
+#[no_mangle]
+pub extern "C" fn compare_check_house_plain(cpi: usize, batch: &[u64]) -> u64
+    ensures { λ r. ⌜ r ≡ checkNumber (houseChecked cpi (now (batch .entry))) ⌝ }
+{
+    check_number(verdict::check_house(cpi, batch))
+}
+
 pub fn chosen_relation(n: u32) -> Relation
     ensures { λ r. ⌜ r ≡ chosenRelation n ⌝ }
 {

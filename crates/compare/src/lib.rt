@@ -4,6 +4,7 @@ pub mod check;
 pub mod filler;
 pub mod makers;
 pub mod reader;
+pub mod reads;
 pub mod tables;
 
 ghost use mathlib.Core.Path.{_≡_};
