@@ -10,6 +10,12 @@ use words::{record_words, rom_words, words_of};
 /// Words of the house listing.
 const LISTING_WORDS: usize = 3499;
 
+/// Rows of a cycle, and those of bin among them.
+pub const ROWS: usize = 514;
+pub const BIN_ROWS: usize = 483;
+
+pub const SCRATCH_WORDS: usize = 3072;
+
 /// Arithmetic, shifts, a store, a load of a byte and a branch, 363 cycles of it.
 const PROGRAM: [u32; 12] = [
     0x0280_0293, // addi x5, x0, 40
@@ -101,8 +107,8 @@ impl Accepted {
         let geometry = WITNESS_LAYOUT::geometry(cpi);
         let batch = |rows: &Vec<Vec<Gf128>>| assemble_instance_z(&geometry, rows, &cycles.public);
         let elements: Vec<Vec<Gf128>> = cycles.rows.iter().map(batch).collect();
-        let words = elements.iter().map(|z| words_of(z)).collect();
-        let bytes = elements.iter().map(|z| bytes_of(z)).collect();
+        let words: Vec<Vec<u64>> = elements.iter().map(|z| words_of(z)).collect();
+        let bytes = words.iter().map(|words| bytes_of(words)).collect();
         Accepted {
             elements,
             words,
@@ -111,50 +117,11 @@ impl Accepted {
     }
 }
 
-fn bytes_of(z: &[Gf128]) -> Vec<u8> {
-    z.iter()
-        .flat_map(|element| element.0.to_le_bytes())
-        .collect()
+/// The lowest byte of each word first.
+pub fn bytes_of(words: &[u64]) -> Vec<u8> {
+    words.iter().flat_map(|word| word.to_le_bytes()).collect()
 }
 
 pub fn listing() -> Vec<u32> {
     (0..LISTING_WORDS).map(product::listing_word).collect()
-}
-
-/// Pairs to be multiplied.
-pub struct Operands {
-    pub pairs: Vec<(u128, u128)>,
-}
-
-impl Operands {
-    const PAIRS: u64 = 512;
-
-    pub fn dense() -> Operands {
-        Operands::from_halves(|half| half)
-    }
-
-    pub fn bits() -> Operands {
-        Operands::from_halves(|half| half & 1)
-    }
-
-    /// A dense element has two halves of its own, an element 0 or 1 only a bit of the lower one.
-    fn from_halves(keep: fn(u64) -> u64) -> Operands {
-        let element = |i: u64| {
-            let low = keep(scrambled(2 * i));
-            let high = if low > 1 { scrambled(2 * i + 1) } else { 0 };
-            u128::from(low) | u128::from(high) << 64
-        };
-        let pair = |i| (element(2 * i), element(2 * i + 1));
-        Operands {
-            pairs: (0..Self::PAIRS).map(pair).collect(),
-        }
-    }
-}
-
-/// The i-th number of SplitMix64.
-fn scrambled(i: u64) -> u64 {
-    let mut z = (i + 1).wrapping_mul(0x9e37_79b9_7f4a_7c15);
-    z = (z ^ z >> 30).wrapping_mul(0xbf58_476d_1ce4_e5b9);
-    z = (z ^ z >> 27).wrapping_mul(0x94d0_49bb_1331_11eb);
-    z ^ z >> 31
 }

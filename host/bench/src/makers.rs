@@ -7,7 +7,9 @@ use magnetar_cpu::circuit::{assemble_instance_z, witness_row, WITNESS_LAYOUT};
 use words::words_of;
 
 use crate::inputs::{Cycles, Run};
-use crate::timing::{both, Best, Work};
+use crate::table::two;
+use crate::timing::{in_turn, Work};
+use crate::CHECKS;
 
 /// Words of a row, and of a batch for each of its cycles.
 const ROW_WORDS: usize = 8192;
@@ -15,8 +17,20 @@ const ROW_WORDS: usize = 8192;
 /// What stands in a word that is to be written.
 const UNWRITTEN: u64 = u64::MAX;
 
-/// Seconds a row of `witness_row`, over the first cycles of the program.
-pub fn time_row(rows: usize, repetitions: usize) -> Best {
+pub fn print() {
+    let (_, rows, repetitions) = CHECKS[0];
+    let both = time_row(rows, repetitions);
+    two("`witness_row`", "µs a row", both, repetitions);
+    for (cpi, batches, repetitions) in CHECKS {
+        let both = time_assembly(cpi, batches, repetitions);
+        let what = format!("`assemble_instance_z`, cpi {cpi}");
+        two(&what, "µs a cycle", both, repetitions);
+    }
+}
+
+/// Seconds a row of `witness_row`, the original's and the product's, over the first cycles of the
+/// program.
+fn time_row(rows: usize, repetitions: usize) -> [f64; 2] {
     let run = Run::new(rows);
     let (lent, public) = (run.words(), words_of(&run.public));
     let mut row = vec![0; ROW_WORDS];
@@ -26,19 +40,21 @@ pub fn time_row(rows: usize, repetitions: usize) -> Best {
         assert!(row == words_of(&right), "the rows differ");
     }
     let units = rows;
-    both(
+    in_turn(
         Work { units, repetitions },
-        || {
-            for (record, rom) in &run.cycles {
-                let (record, rom, public) = (black_box(record), black_box(rom), &run.public);
-                black_box(witness_row(record, rom, black_box(public)));
-            }
-        },
-        || {
-            for (record, rom) in &lent {
-                make_row(record, rom, &public, &mut row);
-            }
-        },
+        [
+            &mut || {
+                for (record, rom) in &run.cycles {
+                    let (record, rom, public) = (black_box(record), black_box(rom), &run.public);
+                    black_box(witness_row(record, rom, black_box(public)));
+                }
+            },
+            &mut || {
+                for (record, rom) in &lent {
+                    make_row(record, rom, &public, &mut row);
+                }
+            },
+        ],
     )
 }
 
@@ -48,8 +64,8 @@ fn make_row(record: &[u64], rom: &[u64], public: &[u64], row: &mut [u64]) {
     assert_eq!(answer, 0, "the row maker refuses");
 }
 
-/// Seconds a cycle of `assemble_instance_z`.
-pub fn time_assembly(cpi: usize, batches: usize, repetitions: usize) -> Best {
+/// Seconds a cycle of `assemble_instance_z`, the original's and the product's.
+fn time_assembly(cpi: usize, batches: usize, repetitions: usize) -> [f64; 2] {
     let cycles = Cycles::new(cpi, batches);
     let geometry = WITNESS_LAYOUT::geometry(cpi);
     let by_original = |rows: &[Vec<_>]| {
@@ -64,18 +80,20 @@ pub fn time_assembly(cpi: usize, batches: usize, repetitions: usize) -> Best {
         assert!(batch == words_of(&by_original(rows)), "the batches differ");
     }
     let units = cpi * batches;
-    both(
+    in_turn(
         Work { units, repetitions },
-        || {
-            for rows in &cycles.rows {
-                black_box(by_original(rows));
-            }
-        },
-        || {
-            for words in &cycles.words {
-                assemble(cpi, words, &public, &mut batch);
-            }
-        },
+        [
+            &mut || {
+                for rows in &cycles.rows {
+                    black_box(by_original(rows));
+                }
+            },
+            &mut || {
+                for words in &cycles.words {
+                    assemble(cpi, words, &public, &mut batch);
+                }
+            },
+        ],
     )
 }
 

@@ -4,6 +4,8 @@
 //! proved total and in bounds, so a call has nothing that its caller could get wrong. This is the
 //! one crate of the workspace with `unsafe` in it.
 
+pub mod stack;
+
 /// A value, or the number of the question that was answered with no.
 pub type Answer = Result<u64, u64>;
 
@@ -31,6 +33,19 @@ mod c {
             scratch_len: usize,
         ) -> u64;
         pub fn compare_check_house(cpi: usize, batch: *const u64, batch_len: usize) -> u64;
+        pub fn compare_check_row_plain(
+            cpi: usize,
+            listing: *const u32,
+            listing_len: usize,
+            batch: *const u64,
+            batch_len: usize,
+            scratch: *mut u64,
+            scratch_len: usize,
+        ) -> u64;
+        pub fn compare_check_house_plain(cpi: usize, batch: *const u64, batch_len: usize) -> u64;
+        pub fn compare_read(words: *const u64, words_len: usize) -> u64;
+        pub fn compare_read_bytes(bytes: *const u8, bytes_len: usize) -> u64;
+        pub fn compare_clear(scratch: *mut u64, scratch_len: usize);
         pub fn compare_apply(
             cpi: usize,
             listing: *const u32,
@@ -178,6 +193,41 @@ pub fn check_row(cpi: usize, listing: &[u32], batch: &[u64], scratch: &mut [u64]
 /// The verdict against the house listing, which is not lent. Answers as `check_row` does.
 pub fn check_house(cpi: usize, batch: &[u64]) -> u64 {
     unsafe { c::compare_check_house(cpi, batch.as_ptr(), batch.len()) }
+}
+
+/// The same verdict by the plain walk over the listing.
+pub fn check_row_plain(cpi: usize, listing: &[u32], batch: &[u64], scratch: &mut [u64]) -> u64 {
+    unsafe {
+        c::compare_check_row_plain(
+            cpi,
+            listing.as_ptr(),
+            listing.len(),
+            batch.as_ptr(),
+            batch.len(),
+            scratch.as_mut_ptr(),
+            scratch.len(),
+        )
+    }
+}
+
+/// The same verdict as `check_house` by the plain walk over the house listing.
+pub fn check_house_plain(cpi: usize, batch: &[u64]) -> u64 {
+    unsafe { c::compare_check_house_plain(cpi, batch.as_ptr(), batch.len()) }
+}
+
+/// The bitwise or of all words: one plain read of them.
+pub fn read(words: &[u64]) -> u64 {
+    unsafe { c::compare_read(words.as_ptr(), words.len()) }
+}
+
+/// The bitwise or of all bytes.
+pub fn read_bytes(bytes: &[u8]) -> u64 {
+    unsafe { c::compare_read_bytes(bytes.as_ptr(), bytes.len()) }
+}
+
+/// Makes all words zero, as every verdict does with scratch.
+pub fn clear(scratch: &mut [u64]) {
+    unsafe { c::compare_clear(scratch.as_mut_ptr(), scratch.len()) }
 }
 
 /// A row of a listing: relation 0 is bin, any other fld.

@@ -1,0 +1,126 @@
+//! The check of accepted batches: as it is called, by the plain walk, from bytes, and in its parts;
+//! beside the original's, and beside one plain read of the columns that are looked at.
+
+use std::hint::black_box;
+
+use cellprism::Answer;
+use magnetar_cpu::circuit::{build_circuit_batched, check_row, CircuitSpec};
+
+use crate::inputs::{self, Accepted, ROWS, SCRATCH_WORDS};
+use crate::reads;
+use crate::timing::{in_turn, Work};
+use crate::CHECKS;
+
+/// Batches of one size: seconds a cycle of each side.
+pub struct Checked {
+    pub cpi: usize,
+    pub repetitions: usize,
+    pub original: f64,
+    pub read: f64,
+    /// The house listing is lent.
+    pub check_row: f64,
+    pub check_row_plain: f64,
+    /// No listing is lent.
+    pub check_house: f64,
+    pub check_house_plain: f64,
+    /// The clearing of scratch, once a batch.
+    pub clear: f64,
+}
+
+impl Checked {
+    pub fn time((cpi, batches, repetitions): (usize, usize, usize)) -> Checked {
+        let accepted = Accepted::new(cpi, batches);
+        let spec = build_circuit_batched(cpi);
+        let listing = inputs::listing();
+        let listing = || black_box(&listing[..]);
+        let scratch = || vec![0; SCRATCH_WORDS];
+        let (mut fast, mut plain, mut cleared) = (scratch(), scratch(), scratch());
+        let units = cpi * batches;
+        let [original, read, check_house, clear, check_row, check_house_plain, check_row_plain] =
+            in_turn(
+                Work { units, repetitions },
+                [
+                    &mut || by_original(&spec, &accepted),
+                    &mut || accepted.words.iter().for_each(|z| reads::words(cpi, z)),
+                    &mut || each(cpi, &accepted, |z| product::check_house(cpi, z)),
+                    &mut || (0..batches).for_each(|_| product::clear(black_box(&mut cleared))),
+                    &mut || {
+                        each(cpi, &accepted, |z| {
+                            product::check_row(cpi, listing(), z, &mut fast)
+                        });
+                    },
+                    &mut || each(cpi, &accepted, |z| product::check_house_plain(cpi, z)),
+                    &mut || {
+                        each(cpi, &accepted, |z| {
+                            product::check_row_plain(cpi, listing(), z, &mut plain)
+                        });
+                    },
+                ],
+            );
+        Checked {
+            cpi,
+            repetitions,
+            original,
+            read,
+            check_row,
+            check_row_plain,
+            check_house,
+            check_house_plain,
+            clear,
+        }
+    }
+}
+
+/// Rows of one cycle: seconds a row of each side.
+pub struct FromBytes {
+    pub repetitions: usize,
+    /// Over elements, as at cpi 1.
+    pub original: f64,
+    pub read: f64,
+    /// The product's C boundary.
+    pub check: f64,
+}
+
+impl FromBytes {
+    pub fn time() -> FromBytes {
+        let (cpi, batches, repetitions) = CHECKS[0];
+        let accepted = Accepted::new(cpi, batches);
+        let spec = build_circuit_batched(cpi);
+        let right = Answer::Accepted { rows: ROWS as u32 };
+        let units = batches;
+        let [original, read, check] = in_turn(
+            Work { units, repetitions },
+            [
+                &mut || by_original(&spec, &accepted),
+                &mut || accepted.bytes.iter().for_each(|row| reads::bytes(row)),
+                &mut || {
+                    for bytes in &accepted.bytes {
+                        let answer = cellprism::check_row(black_box(bytes));
+                        assert_eq!(answer, right, "the product does not accept");
+                    }
+                },
+            ],
+        );
+        FromBytes {
+            repetitions,
+            original,
+            read,
+            check,
+        }
+    }
+}
+
+/// One check by the product of each batch.
+fn each(cpi: usize, accepted: &Accepted, mut check: impl FnMut(&[u64]) -> u64) {
+    for words in &accepted.words {
+        let rows = check(black_box(words));
+        assert_eq!(rows, (ROWS * cpi) as u64, "the product does not accept");
+    }
+}
+
+fn by_original(spec: &CircuitSpec, accepted: &Accepted) {
+    for z in &accepted.elements {
+        let answer = check_row(black_box(spec), black_box(z));
+        assert_eq!(answer, Ok(()), "the original does not accept");
+    }
+}
