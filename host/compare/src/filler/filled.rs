@@ -1,15 +1,16 @@
-//! Batches filled by the product: what it wrote, and what the original's `check_row` says of them.
+//! Batches filled by the product: what it wrote, and what the original's `check_row` and the product's
+//! checks say of them.
 
 use super::conditions::{Cycle, CONDITIONS};
 use super::cycles::{word, Wanted};
 use super::derived::{derived, first_broken};
 use crate::columns::SIZES;
 use crate::numbers::Numbers;
-use crate::original::{self, Gf128};
+use crate::original::Gf128;
 use crate::parallel::in_parts;
 use crate::report::{test, Tally, Test};
 use crate::verdict::batches::{self, batch_column, Batch, ONE_COLUMN, WITNESS_COLUMNS};
-use crate::verdict::judge::Judge;
+use crate::verdict::judge::{of_a_house_verdict, Judge};
 
 /// Every setting of eight flags, every offset, each condition broken and none.
 const DIRECTED: usize = 256 * 8 * (CONDITIONS + 1);
@@ -17,9 +18,11 @@ const DIRECTED: usize = 256 * 8 * (CONDITIONS + 1);
 /// Random batches of each size.
 const RANDOM: [usize; 9] = [70_000, 6_000, 1_500, 600, 200, 80, 32, 16, 8];
 
-/// Comparisons of one batch: the answer, what was written, the rows that say what, the verdict,
-/// the conditions before and after, halt, taken.
-const OF_A_BATCH: u64 = 8;
+/// Comparisons of one batch: the answer, what was written, the rows that say what, the verdicts and
+/// whether they are what the conditions say, the conditions before and after, halt, taken.
+fn of_a_batch(cpi: usize) -> u64 {
+    8 + of_a_house_verdict(cpi)
+}
 
 /// Cycles asked of a larger batch, for each asks for bits in all of it.
 const CYCLES_ASKED: usize = 8;
@@ -34,13 +37,13 @@ pub fn batches_filled() -> usize {
 pub fn tests() -> Vec<Test> {
     let mut tests = vec![test(
         "filled rows, every setting and offset, each condition broken by itself",
-        DIRECTED as u64 * (OF_A_BATCH + 1),
+        DIRECTED as u64 * (of_a_batch(1) + 1),
         directed,
     )];
     for (cpi, batches) in SIZES.into_iter().zip(RANDOM) {
         tests.push(test(
             format!("{batches} filled batches of {cpi}"),
-            batches as u64 * OF_A_BATCH + 2,
+            batches as u64 * of_a_batch(cpi) + 2,
             move |tally| random(tally, cpi, batches),
         ));
     }
@@ -175,6 +178,16 @@ pub fn fill(tally: &mut Tally, batch: &mut Batch, place: &dyn Fn() -> String) {
     tally.same(written, batch.words.is_right(), true);
 }
 
+/// A batch of any cycles that meet the conditions, filled. That it is accepted is for the caller to
+/// see.
+pub fn accepted(numbers: &mut Numbers, cpi: usize, output: u128) -> Batch {
+    let cycle = |_| Wanted::any(numbers, 0, output).make(numbers);
+    let cycles: Vec<Cycle> = (0..cpi).map(cycle).collect();
+    let mut batch = batch_of(numbers, &cycles, output);
+    fill(&mut Tally::default(), &mut batch, &String::new);
+    batch
+}
+
 fn fills(
     tally: &mut Tally,
     judge: &Judge,
@@ -206,9 +219,9 @@ fn fills(
 
     let rows = || format!("{}, rows that define derived columns", place());
     tally.same(rows, first_broken(&judge.constraints, &batch.z), None);
-    let verdict = || format!("{}, accepted by the original", place());
-    let by_original = original::check_row(&judge.spec, &batch.z).is_none();
-    tally.same(verdict, by_original, accepted);
+    let verdict = judge.judge_house(tally, &mut batch, place);
+    let as_met = || format!("{}, accepted where all conditions are met", place());
+    tally.same(as_met, verdict.relation().is_none(), accepted);
 
     let bit = |column: usize, d: usize| batch.z[column * cpi + d].0 == 1;
     let halt: Vec<bool> = (0..cpi).map(|d| bit(HALT, d)).collect();

@@ -1,10 +1,11 @@
-//! The check with the house listing inside it: `check_house` over batches of every size, and the
-//! product's own C boundary over one row of bytes, through the wrapper that a prover uses.
+//! The check with the house listing inside it: `check_house` over batches of every size, in both its
+//! forms, and the product's own C boundary over one row of bytes, through the wrapper that a prover uses.
 
 use cellprism::Answer;
 
 use super::answer::Verdict;
 use super::batches::Batch;
+use super::forms::{CHECK_HOUSE, FORMS};
 use super::lent::Lent;
 use crate::house::Relation;
 use crate::original::Gf128;
@@ -12,15 +13,17 @@ use crate::report::Tally;
 
 /// Comparisons that `same` makes of a batch.
 pub fn compared(cpi: usize) -> u64 {
-    1 + u64::from(cpi == 1)
+    FORMS as u64 + u64::from(cpi == 1)
 }
 
-/// Both answers on a batch, which stays as it is; the C boundary takes one cycle only.
+/// All answers on a batch, which stays as it is; the C boundary takes one cycle only.
 pub fn same(tally: &mut Tally, batch: &mut Batch, verdict: Verdict, place: &dyn Fn() -> String) {
-    let answer = product::check_house(batch.cpi, batch.words.words());
-    let house = || format!("{}, check_house, the batch unchanged", place());
-    let right = (verdict.number(), true);
-    tally.same(house, (answer, batch.words.is_right()), right);
+    for (form, check) in CHECK_HOUSE {
+        let answer = check(batch.cpi, batch.words.words());
+        let house = || format!("{}, {form}, the batch unchanged", place());
+        let right = (verdict.number(), true);
+        tally.same(house, (answer, batch.words.is_right()), right);
+    }
     if batch.cpi == 1 {
         let mut row = Lent::of(&bytes_of(&batch.z));
         let answer = cellprism::check_row(row.words());

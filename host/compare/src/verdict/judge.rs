@@ -1,8 +1,11 @@
-//! One batch before three judges: the original, the evaluation of its matrices, the product.
+//! One batch before three judges: the original, the evaluation of its matrices, the product in both
+//! its forms.
 
 use super::answer::{Refusal, Verdict};
 use super::batches::Batch;
+use super::boundary;
 use super::constraints::Constraints;
+use super::forms::{CheckRow, CHECK_ROW, FORMS};
 use super::lent::Lent;
 use super::listings::Listing;
 use crate::numbers::Numbers;
@@ -12,10 +15,15 @@ use crate::report::Tally;
 pub const SCRATCH_WORDS: usize = 3072;
 
 /// Comparisons that `Judge::judge` makes.
-pub const OF_A_VERDICT: u64 = 4;
+pub const OF_A_VERDICT: u64 = 1 + 3 * FORMS as u64;
 
 /// Comparisons that `refused` makes.
-pub const OF_A_REFUSAL: u64 = 2;
+pub const OF_A_REFUSAL: u64 = 2 * FORMS as u64;
+
+/// Comparisons that `Judge::judge_house` makes.
+pub fn of_a_house_verdict(cpi: usize) -> u64 {
+    1 + boundary::compared(cpi)
+}
 
 /// The constraints on batches of one size, in the form of each judge.
 pub struct Judge {
@@ -53,19 +61,39 @@ impl Judge {
         batch: &mut Batch,
         place: &dyn Fn() -> String,
     ) -> Verdict {
+        let verdict = self.right(tally, batch, place);
+        for (form, check) in CHECK_ROW {
+            let place = || format!("{}, {form}", place());
+            desk.scratch_becomes_zero();
+            let answer = desk.check(check, self.cpi, &batch.words);
+            tally.same(place, answer, verdict.number());
+            let scratch = || format!("{}, scratch zero after it", place());
+            tally.same(scratch, desk.scratch.is_right(), true);
+            let others = || format!("{}, listing and batch unchanged", place());
+            let unchanged = [desk.listing.is_right(), batch.words.is_right()];
+            tally.same(others, unchanged, [true; 2]);
+        }
+        verdict
+    }
+
+    /// Judges a batch against the circuit, for which the product is lent no listing.
+    pub fn judge_house(
+        &self,
+        tally: &mut Tally,
+        batch: &mut Batch,
+        place: &dyn Fn() -> String,
+    ) -> Verdict {
+        let verdict = self.right(tally, batch, place);
+        boundary::same(tally, batch, verdict, place);
+        verdict
+    }
+
+    /// The verdict by evaluation, in which the original agrees as far as it says anything.
+    fn right(&self, tally: &mut Tally, batch: &Batch, place: &dyn Fn() -> String) -> Verdict {
         let verdict = self.constraints.verdict(&batch.z);
         let by_original = original::check_row(&self.spec, &batch.z);
         let relation = || format!("{}, relation by evaluation and original", place());
         tally.same(relation, verdict.relation(), by_original);
-
-        desk.scratch_becomes_zero();
-        let answer = desk.check_row(self.cpi, &batch.words);
-        tally.same(place, answer, verdict.number());
-        let scratch = || format!("{}, scratch zero after it", place());
-        tally.same(scratch, desk.scratch.is_right(), true);
-        let others = || format!("{}, listing and batch unchanged", place());
-        let unchanged = [desk.listing.is_right(), batch.words.is_right()];
-        tally.same(others, unchanged, [true; 2]);
         verdict
     }
 }
@@ -91,9 +119,9 @@ impl Desk {
         }
     }
 
-    pub fn check_row(&mut self, cpi: usize, batch: &Lent<u64>) -> u64 {
+    fn check(&mut self, check: CheckRow, cpi: usize, batch: &Lent<u64>) -> u64 {
         let scratch = self.scratch.words_mut();
-        product::check_row(cpi, self.listing.words(), batch.words(), scratch)
+        check(cpi, self.listing.words(), batch.words(), scratch)
     }
 
     /// Scratch may hold anything before a verdict and is zero after it.
@@ -105,7 +133,7 @@ impl Desk {
     }
 }
 
-/// A call that is turned down: the answer, and everything lent as it came.
+/// A call that both forms turn down: the answer, and everything lent as it came.
 pub fn refused(
     tally: &mut Tally,
     cpi: usize,
@@ -114,13 +142,16 @@ pub fn refused(
     right: Refusal,
     place: &dyn Fn() -> String,
 ) {
-    let answer = desk.check_row(cpi, batch);
-    tally.same(place, answer, right.answer());
-    let unchanged = [
-        desk.listing.is_right(),
-        batch.is_right(),
-        desk.scratch.is_right(),
-    ];
-    let place = || format!("{}, listing, batch and scratch unchanged", place());
-    tally.same(place, unchanged, [true; 3]);
+    for (form, check) in CHECK_ROW {
+        let place = || format!("{}, {form}", place());
+        let answer = desk.check(check, cpi, batch);
+        tally.same(place, answer, right.answer());
+        let unchanged = [
+            desk.listing.is_right(),
+            batch.is_right(),
+            desk.scratch.is_right(),
+        ];
+        let place = || format!("{}, listing, batch and scratch unchanged", place());
+        tally.same(place, unchanged, [true; 3]);
+    }
 }

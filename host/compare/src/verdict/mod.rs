@@ -8,6 +8,7 @@ mod boundary;
 mod circuit;
 pub mod constraints;
 mod each_row;
+pub mod forms;
 pub mod instructions;
 pub mod judge;
 pub mod lent;

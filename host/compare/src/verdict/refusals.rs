@@ -5,6 +5,7 @@ use super::answer::{
     SCRATCH_LENGTH, SIZE, TERM_ORDER,
 };
 use super::batches::COLUMNS;
+use super::forms::{CHECK_HOUSE, FORMS};
 use super::judge::{refused, Desk, OF_A_REFUSAL, SCRATCH_WORDS};
 use super::lent::Lent;
 use super::listings::{self, Listing, Shape, MARKS, MOST_WORDS};
@@ -51,7 +52,7 @@ pub fn tests() -> Vec<Test> {
         ),
         test(
             "check_house refuses sizes and batch lengths, 1 and 2",
-            SIZES_REFUSED.len() as u64 + 9 * 6,
+            FORMS as u64 * (SIZES_REFUSED.len() as u64 + 9 * 6),
             house_refused,
         ),
         over_circuit("each must-be-zero bit, 7", must_be_zero_bits),
@@ -152,10 +153,12 @@ fn batch_lengths(tally: &mut Tally) {
 fn house_refused(tally: &mut Tally) {
     let mut same = |cpi: usize, words: usize, number: u64| {
         let mut batch = Lent::of(&vec![0; words]);
-        let answer = product::check_house(cpi, batch.words());
-        let right = (refusal(number).answer(), true);
-        let place = || format!("{words} words for {cpi} cycles");
-        tally.same(place, (answer, batch.is_right()), right);
+        for (form, check) in CHECK_HOUSE {
+            let answer = check(cpi, batch.words());
+            let right = (refusal(number).answer(), true);
+            let place = || format!("{form}, {words} words for {cpi} cycles");
+            tally.same(place, (answer, batch.is_right()), right);
+        }
     };
     for cpi in SIZES_REFUSED {
         same(cpi, 2 * COLUMNS, SIZE);
@@ -446,7 +449,7 @@ fn changed(numbers: &mut Numbers, word: u32) -> u32 {
 }
 
 /// Questions 6 to 10 as document 01 asks them: the length, then word by word.
-fn asked(words: &[u32]) -> Option<Refusal> {
+pub fn asked(words: &[u32]) -> Option<Refusal> {
     if words.len() > MOST_WORDS {
         return Some(refusal(LISTING_LENGTH));
     }

@@ -14,6 +14,7 @@ use crate::original::{self, CircuitSpec, CycleRecord, Gf128, RomRow, VirtualKind
 use crate::parallel::in_parts;
 use crate::report::{test, Tally, Test};
 use crate::verdict::answer::Verdict;
+use crate::verdict::forms::{self, FORMS};
 use crate::verdict::instructions as isa;
 
 const PROGRAMS: usize = 1_000;
@@ -281,18 +282,18 @@ pub fn tests() -> Vec<Test> {
     tests
 }
 
-/// The verdicts on a run's rows, by the product on the rows that it makes, and the relations that
+/// The verdicts on a run's rows, by both forms of the product on the rows that it makes, and the relations that
 /// the original names on its own.
 fn judged(
     spec: &CircuitSpec,
     cycles: &[(CycleRecord, RomRow)],
     public: &[Gf128],
-) -> (Vec<u64>, Vec<Option<Relation>>) {
+) -> (Vec<[u64; FORMS]>, Vec<Option<Relation>>) {
     let words = words_of(public);
     let by_product = |(record, rom): &(CycleRecord, RomRow)| {
         let mut row = vec![u64::MAX; ROW_WORDS];
         product::witness_row(&record_words(record), &rom_words(rom), &words, &mut row);
-        product::check_house(1, &row)
+        forms::of_house(1, &row)
     };
     let by_original = |(record, rom): &(CycleRecord, RomRow)| {
         original::check_row(spec, &original::witness_row(record, rom, public))
@@ -301,9 +302,10 @@ fn judged(
     (verdicts, cycles.iter().map(by_original).collect())
 }
 
-fn expected(classes: &[Option<Class>]) -> (Vec<u64>, Vec<Option<Relation>>) {
+fn expected(classes: &[Option<Class>]) -> (Vec<[u64; FORMS]>, Vec<Option<Relation>>) {
     let verdicts = classes.iter().map(|&class| verdict(class));
-    let numbers = verdicts.clone().map(Verdict::number).collect();
+    let numbers = verdicts.clone().map(|verdict| [verdict.number(); FORMS]);
+    let numbers = numbers.collect();
     (numbers, verdicts.map(Verdict::relation).collect())
 }
 

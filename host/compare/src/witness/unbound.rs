@@ -15,6 +15,7 @@ use crate::original;
 use crate::report::{test, Tally, Test};
 use crate::verdict::answer::Verdict;
 use crate::verdict::batches::{batch_column, Batch, ONE_COLUMN};
+use crate::verdict::forms::{self, FORMS};
 
 /// Comparisons of a row: by the product's check, by its conditions, by the original, and that RV64I
 /// is broken.
@@ -393,15 +394,15 @@ fn filled(cycles: &[&[usize]], output: u64) -> Batch {
     batch
 }
 
-/// What the product and the original say of a batch.
-fn verdicts(batch: &Batch) -> (u64, Option<Relation>) {
+/// What the product, in both its forms, and the original say of a batch.
+fn verdicts(batch: &Batch) -> ([u64; FORMS], Option<Relation>) {
     let spec = original::build_circuit_batched(batch.cpi);
-    let by_product = product::check_house(batch.cpi, batch.words.words());
+    let by_product = forms::of_house(batch.cpi, batch.words.words());
     (by_product, original::check_row(&spec, &batch.z))
 }
 
-fn accepted(cpi: usize) -> u64 {
-    Verdict::Accepted { rows: 514 * cpi }.number()
+fn accepted(cpi: usize) -> [u64; FORMS] {
+    [Verdict::Accepted { rows: 514 * cpi }.number(); FORMS]
 }
 
 fn row_holds(tally: &mut Tally, unbound: &Unbound, columns: &[usize], place: &dyn Fn() -> String) {
@@ -578,7 +579,7 @@ fn isa_results_fail(tally: &mut Tally) {
             batch_row,
             rows: before + batch_row + 1,
         };
-        tally.same(|| name.into(), by_product, right.number());
+        tally.same(|| name.into(), by_product, [right.number(); FORMS]);
         tally.same(|| format!("{name}, original"), by_original, Some(relation));
     }
 }
