@@ -42,6 +42,9 @@ use Rattle.layout.specs.declared.Asked.the-variants.{Yes, No}
 use Rattle.step.specs.declared.conditions.StepAnswer.{StepAnswer}
 use Rattle.step.specs.declared.conditions.StepAnswer.the-variants.{Meets, Unmet, Refused as NotAsked}
 use Rattle.step.specs.Fill.{Called}
+use Rattle.packed.specs.declared.Packing.{Packing}
+use Rattle.packed.specs.declared.Packing.the-variants.{Bits, NotBits, Refused as NotPacked}
+use Rattle.packed.specs.Packed.{PackCalled}
 use Rattle.compare.specs.declared.reader.TwoRows.{TwoRows}
 
 -- the low word of an element for 0, else the high one
@@ -146,6 +149,14 @@ bitNumber (NotTested r) = refusedAt r
 abbrev pub askedNumber : Asked → ℕ
 askedNumber Yes = 0
 askedNumber (No r) = refusedAt r
+
+abbrev pub packingNumber : Packing → ℕ
+packingNumber Bits = 0
+packingNumber NotBits = 1
+packingNumber (NotPacked r) = refusedAt r
+
+abbrev pub packReply : PackCalled → Reply
+packReply c = reply (packingNumber (c .answer)) (c .out)
 
 abbrev pub fillReply : Called → Reply
 fillReply c = reply (askedNumber (c .answer)) (c .batch)

@@ -63,14 +63,14 @@ pub extern "C" fn compare_check_row(
 ) -> u64
     ensures { λ r. ⌜ reply r (now (scratch .exit)) ≡ checkReply (checked cpi (now (listing .entry)) (now (batch .entry)) (now (scratch .entry))) ⌝ }
 {
-    check_number(verdict::check_row(cpi, listing, batch, scratch))
+    check_number(judge::check_row(cpi, listing, batch, scratch))
 }
 
 #[no_mangle]
 pub extern "C" fn compare_check_house(cpi: usize, batch: &[u64]) -> u64
     ensures { λ r. ⌜ r ≡ checkNumber (houseChecked cpi (now (batch .entry))) ⌝ }
 {
-    check_number(verdict::check_house(cpi, batch))
+    check_number(judge::check_house(cpi, batch))
 }
 
 // The plain walk, whatever the two above are bound to.

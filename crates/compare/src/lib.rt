@@ -3,6 +3,7 @@
 pub mod check;
 pub mod filler;
 pub mod makers;
+pub mod packing;
 pub mod reader;
 pub mod reads;
 pub mod tables;

@@ -1,6 +1,10 @@
-// What the benchmark holds the check against, compiled as the check is: one plain read of words or bytes, and the clearing of scratch.
+// What the benchmark holds the check against, compiled as the check is: one plain read of words or bytes, the clearing of
+// scratch, and the comparison of a listing with the table.
+ghost use mathlib.Core.Logic.{_↔_};
 ghost use mathlib.Core.Path.{_≡_};
+ghost use Prim.Native.Nat.{_<_};
 ghost use lib.ListN.{length, replicate};
+ghost use Rattle.circuit.specs.Circuit.{circuitWords};
 ghost use Rattle.compare.specs.Reads.{ored};
 
 // A loop that joins all it reads has to read all of it.
@@ -42,4 +46,12 @@ pub extern "C" fn compare_clear(scratch: &mut [u64])
     ensures { λ _. ⌜ now (scratch .exit) ≡ replicate (length (now (scratch .entry))) 0 ⌝ }
 {
     verdict::clear(scratch)
+}
+
+// 1 where a listing is the house listing, else 0.
+#[no_mangle]
+pub extern "C" fn compare_is_house(listing: &[u32]) -> u64
+    ensures { λ r. ⌜ (r < 2) × ((r ≡ 1) ↔ (now (listing .entry) ≡ circuitWords)) ⌝ }
+{
+    if circuit::is_house(listing) { 1 } else { 0 }
 }
