@@ -9,6 +9,7 @@ ghost use mathlib.Core.Path.{_≡_};
 ghost use Prim.Native.Nat.{_+_, _*_, _<_};
 ghost use lib.ListN.{length, replicate};
 ghost use Rattle.verdict.specs.Row.{elementAt};
+ghost use Rattle.packed.specs.Packed.{PackCalled, packCalled};
 ghost use Rattle.packed.specs.Named.{NamedIn};
 ghost use Rattle.judge.specs.Short.{shortBits, shortYes, ShortIn, ShortRow};
 
@@ -19,12 +20,23 @@ fn element(batch: &[u64], at: usize) -> Gf128
     Gf128::of_words(batch[2 * at], batch[2 * at + 1])
 }
 
+// Of a batch of one cycle the packing stands apart: the two run faster as one piece of code.
+fn pack(cpi: usize, batch: &[u64], out: &mut [u64]) -> Packing
+    requires { ⌜ NamedIn cpi (now batch) (now out) ⌝ }
+    ensures { λ r. ⌜ _≡_ {A = PackCalled} (record { answer = r; out = now (out .exit) }) (packCalled cpi (now (batch .entry)) (now (out .entry))) ⌝ }
+{
+    if cpi == 1 {
+        return packed::pack_row(batch, out);
+    }
+    packed::pack_named(cpi, batch, out)
+}
+
 // Packs the batch into a slice that is lent, and judges each cycle.
 fn pack_and_judge(cpi: usize, batch: &[u64], out: &mut [u64]) -> bool
     requires { ⌜ NamedIn cpi (now batch) (now out) ⌝ }
     ensures { λ r. ⌜ r ≡ shortBits cpi (now (batch .entry)) (now (out .entry)) ⌝ }
 {
-    match packed::pack_named(cpi, batch, out) {
+    match pack(cpi, batch, out) {
         Packing::Bits => judge_cycles(cpi, out, element(batch, 2048 * cpi + 1)),
         Packing::NotBits => false,
         Packing::Refused(_) => false,

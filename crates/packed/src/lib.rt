@@ -69,6 +69,29 @@ fn pack(cpi: usize, batch: &[u64], out: &mut [u64]) -> u64
     pack_large(cpi, batch, out)
 }
 
+// The same of a batch of one cycle, whose shape stands apart: who has but one cycle need not carry the others.
+pub fn pack_row(batch: &[u64], out: &mut [u64]) -> Packing
+    ensures { λ r. ⌜ _≡_ {A = PackCalled} (record { answer = r; out = now (out .exit) }) (packCalled 1 (now (batch .entry)) (now (out .entry))) ⌝ }
+{
+    if batch.len() != 8192 {
+        return Packing::Refused(Refusal {
+            number: 2,
+            place: 0,
+        });
+    }
+    if out.len() != 32 {
+        return Packing::Refused(Refusal {
+            number: 18,
+            place: 0,
+        });
+    }
+    if pack_one(batch, out) == 0 {
+        Packing::Bits
+    } else {
+        Packing::NotBits
+    }
+}
+
 // The words of every cycle that hold columns which rows name, in cycle order: questions 1, 2 and 18.
 pub fn pack_named(cpi: usize, batch: &[u64], out: &mut [u64]) -> Packing
     ensures { λ r. ⌜ _≡_ {A = PackCalled} (record { answer = r; out = now (out .exit) }) (packCalled cpi (now (batch .entry)) (now (out .entry))) ⌝ }

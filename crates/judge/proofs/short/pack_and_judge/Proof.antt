@@ -8,8 +8,8 @@ use borrow.Author.Needs.{needs}
 use Rattle.judge.proofs.short.pack_and_judge.Statement.{statement}
 use Rattle.judge.proofs.short.pack_and_judge.Tie as tie
 
-pack-named-requires : tie.Need-pack-named-requires
-pack-named-requires c κs = search needs
+pack-requires : tie.Need-pack-requires
+pack-requires c κs = search needs
 
 enum-told : tie.Need-enum-told
 enum-told c = search needs
@@ -24,7 +24,7 @@ element-requires : tie.Need-element-requires
 element-requires c κs = let p = c .before .before .before .before .before .before .before .before .before .pre in omega (arith, p .words, allowed-range _ (p .size))
 
 judge-cycles-requires : tie.Need-judge-cycles-requires
-judge-cycles-requires c κs = let p = c .before .before .before .before .before .before .before .before .before .before .pre in (allowed-range _ (p .size) .1, packed-room _ _ _ p (c .before .before .before .before .before .before .pack-named .ensures))
+judge-cycles-requires c κs = let p = c .before .before .before .before .before .before .before .before .before .before .pre in (allowed-range _ (p .size) .1, packed-room _ _ _ p (c .before .before .before .before .before .before .pack .ensures))
 
 enum-told-2 : tie.Need-enum-told-2
 enum-told-2 c = search needs
@@ -36,25 +36,25 @@ same-length : tie.Need-same-length
 same-length c = search needs
 
 returns : tie.Need-returns
-returns c = of-bits _ _ _ (c .before .before .before .before .before .before .before .before .before .before .before .pre) (c .before .before .before .before .before .before .before .pack-named .ensures) (c .before .before .before .enum-told .given .1) (c .before .element .ensures) (c .judge-cycles .ensures)
+returns c = of-bits _ _ _ (c .before .before .before .before .before .before .before .before .before .before .before .pre) (c .before .before .before .before .before .before .before .pack .ensures) (c .before .before .before .enum-told .given .1) (c .before .element .ensures) (c .judge-cycles .ensures)
 
 same-length-2 : tie.Need-same-length-2
 same-length-2 c = search needs
 
 returns-2 : tie.Need-returns-2
-returns-2 c = not-of-bits _ _ _ (c .before .before .before .before .before .before .before .before .pre) (c .before .before .before .before .pack-named .ensures) (not-bits (c .enum-told2 .given .1))
+returns-2 c = not-of-bits _ _ _ (c .before .before .before .before .before .before .before .before .pre) (c .before .before .before .before .pack .ensures) (not-bits (c .enum-told2 .given .1))
 
 same-length-3 : tie.Need-same-length-3
 same-length-3 c = search needs
 
 returns-3 : tie.Need-returns-3
-returns-3 c = not-of-bits _ _ _ (c .before .before .before .before .before .before .before .before .pre) (c .before .before .before .before .pack-named .ensures) (refused-bits (c .enum-told3 .given .1))
+returns-3 c = not-of-bits _ _ _ (c .before .before .before .before .before .before .before .before .pre) (c .before .before .before .before .pack .ensures) (refused-bits (c .enum-told3 .given .1))
 
 pub pack-and-judge-spec : {M : Type 1} → statement M
 pack-and-judge-spec =
     tie.close
     (tie.spec
-    pack-named-requires
+    pack-requires
     enum-told
     mul-element
     add-element
