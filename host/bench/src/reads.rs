@@ -1,11 +1,9 @@
-//! One plain read of the columns that the check of an accepted batch looks at.
+//! One plain read of the columns that the check of an accepted batch looks at, the two public ones left
+//! out.
 
 use std::hint::black_box;
-use std::ops::Range;
 
-/// The columns below 2,048 that the check looks at, those that no row names but that lie between
-/// others included. The two public ones that rows name are left out.
-pub const LOOKED_AT: [Range<usize>; 4] = [0..800, 832..864, 896..960, 1024..1136];
+use product::LOOKED_AT;
 
 /// Reads them in every cycle of a batch, two words an element.
 pub fn words(cpi: usize, batch: &[u64]) {

@@ -6,6 +6,12 @@
 
 pub mod stack;
 
+use std::ops::Range;
+
+/// The columns below 2,048 that the check of an accepted batch looks at: those that rows name, and some
+/// that lie between them. Of the public ones it looks at the two that rows name.
+pub const LOOKED_AT: [Range<usize>; 4] = [0..800, 832..864, 896..960, 1024..1136];
+
 /// A value, or the number of the question that was answered with no.
 pub type Answer = Result<u64, u64>;
 

@@ -1,10 +1,11 @@
 //! The filler and the test of the ten step conditions. The original has no filler: what is filled
 //! goes before its `check_row`, and before a reading of document 01's conditions in this crate.
 
+mod broken;
 pub mod conditions;
 mod cycles;
 pub mod derived;
-mod filled;
+pub mod filled;
 mod flips;
 mod refusals;
 
@@ -12,6 +13,7 @@ use crate::report::Test;
 
 pub fn tests() -> Vec<Test> {
     let mut tests = filled::tests();
+    tests.extend(broken::tests());
     tests.extend(flips::tests());
     tests.extend(refusals::tests());
     tests

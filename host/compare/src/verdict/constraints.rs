@@ -5,7 +5,9 @@ use std::array::from_fn;
 use std::mem::take;
 
 use super::answer::Verdict;
-use crate::house::Relation;
+use super::batches::WITNESS_COLUMNS;
+use super::listings::Row;
+use crate::house::{Relation, Term};
 use crate::listing;
 use crate::original::{CircuitSpec, Gf128, SparseMatrix};
 
@@ -45,6 +47,13 @@ impl Constraints {
         Constraints { in_order }
     }
 
+    /// The rows of a listing in a batch of one cycle.
+    pub fn of_rows(rows: &[Row]) -> Constraints {
+        Constraints {
+            in_order: rows.iter().map(Constraint::of_row).collect(),
+        }
+    }
+
     pub fn verdict(&self, z: &[Gf128]) -> Verdict {
         let fails = |constraint: &Constraint| !constraint.holds(z);
         match self.in_order.iter().position(fails) {
@@ -61,6 +70,23 @@ impl Constraints {
 }
 
 impl Constraint {
+    /// A row of a listing in a batch of one cycle.
+    pub fn of_row(row: &Row) -> Constraint {
+        let term = |term: &Term| (term.column, term.coefficient.value());
+        Constraint {
+            relation: row.relation,
+            batch_row: row.row,
+            sides: from_fn(|side| row.sides[side].iter().map(term).collect()),
+        }
+    }
+
+    /// The columns below the one column that it names.
+    pub fn witness_columns(&self) -> Vec<usize> {
+        let terms = self.sides.iter().flatten();
+        let columns = terms.map(|term| term.0);
+        columns.filter(|&column| column < WITNESS_COLUMNS).collect()
+    }
+
     pub fn holds(&self, z: &[Gf128]) -> bool {
         let [a, b, c] = from_fn(|side| sum(&self.sides[side], z));
         product(a, b) == c

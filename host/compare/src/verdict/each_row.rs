@@ -1,11 +1,12 @@
 //! Each row of the circuit as the first one that does not hold, in batches of every size.
 
 use super::answer::Verdict;
-use super::batches::{self, Batch, WITNESS_COLUMNS};
+use super::batches::{self, Batch};
 use super::boundary;
 use super::constraints::{Constraint, Constraints};
 use super::judge::{Desk, Judge, OF_A_VERDICT};
-use super::programs::{self, Program};
+use super::pool::Pool;
+use super::programs::Program;
 use crate::columns::SIZES;
 use crate::house::Relation;
 use crate::listing::{BIN_ROWS, FLD_ROWS};
@@ -49,8 +50,10 @@ fn each_row(tally: &mut Tally, cpi: usize) {
     let program = Program::of_everything(&mut Numbers::for_test(25));
     let good = Good {
         constraints: Judge::of_circuit(1).constraints,
-        rows: program.rows(CYCLES),
-        public: program.public(),
+        pool: Pool {
+            rows: program.rows(CYCLES),
+            public: program.public(),
+        },
     };
     in_parts(tally, batches(cpi), |tally, part| {
         let mut numbers = Numbers::for_part(26, (cpi << 32 | part) as u64);
@@ -77,11 +80,10 @@ fn failed_at(verdict: Verdict) -> Option<(Relation, usize)> {
     }
 }
 
-/// Rows of one program that are all accepted, and the constraints on each.
+/// Rows of one program, and the constraints on each.
 struct Good {
     constraints: Constraints,
-    rows: Vec<Vec<Gf128>>,
-    public: Vec<Gf128>,
+    pool: Pool,
 }
 
 impl Good {
@@ -103,9 +105,7 @@ impl Good {
     /// A batch in which the target is the first row to fail, in this cycle.
     fn failing_first(&self, target: usize, cpi: usize, cycle: usize) -> Batch {
         let (row, columns) = self.damage(target);
-        let others = (0..cpi).map(|d| &self.rows[(row + d + CYCLES - cycle) % CYCLES]);
-        let rows: Vec<Vec<Gf128>> = others.cloned().collect();
-        let mut batch = Batch::of(cpi, programs::assemble(cpi, &rows, &self.public));
+        let mut batch = self.pool.batch(row, cpi, cycle);
         for column in columns {
             batch.xor(batches::batch_column(cpi, column, cycle), 1);
         }
@@ -115,7 +115,7 @@ impl Good {
     /// A good row and which of its bits to flip, so that the target is the first row to fail: one
     /// bit that the target names, or that and one more that some row ties to it.
     fn damage(&self, target: usize) -> (usize, Vec<usize>) {
-        let named = witness_columns(self.target(target));
+        let named = self.target(target).witness_columns();
         let alone = |column: usize| vec![column];
         let choices: Vec<Vec<usize>> = named.iter().copied().map(alone).collect();
         self.search(target, &choices)
@@ -126,7 +126,7 @@ impl Good {
     fn pairs(&self, named: &[usize]) -> Vec<Vec<usize>> {
         let mut pairs = Vec::new();
         for constraint in &self.constraints.in_order[..BIN_ROWS] {
-            let tied = witness_columns(constraint);
+            let tied = constraint.witness_columns();
             for &first in named.iter().filter(|column| tied.contains(column)) {
                 pairs.extend(tied.iter().map(|&second| vec![first, second]));
             }
@@ -135,7 +135,7 @@ impl Good {
     }
 
     fn search(&self, target: usize, choices: &[Vec<usize>]) -> Option<(usize, Vec<usize>)> {
-        for (row, z) in self.rows.iter().enumerate() {
+        for (row, z) in self.pool.rows.iter().enumerate() {
             let mut z = z.clone();
             for columns in choices {
                 flip(&mut z, columns);
@@ -152,12 +152,6 @@ impl Good {
         let before = &self.constraints.in_order[..target];
         !self.target(target).holds(z) && before.iter().all(|constraint| constraint.holds(z))
     }
-}
-
-fn witness_columns(constraint: &Constraint) -> Vec<usize> {
-    let terms = constraint.sides.iter().flatten();
-    let columns = terms.map(|term| term.0);
-    columns.filter(|&column| column < WITNESS_COLUMNS).collect()
 }
 
 fn flip(z: &mut [Gf128], columns: &[usize]) {

@@ -3,7 +3,7 @@
 use std::array::from_fn;
 
 use super::batches::{COLUMNS, ONE_COLUMN};
-use crate::house::{Coefficient, Relation, Term};
+use crate::house::{self, Coefficient, Relation, Term, Word};
 use crate::listing;
 use crate::numbers::Numbers;
 use crate::original::{self, CircuitSpec, Gf128, SparseMatrix};
@@ -18,6 +18,7 @@ pub const MARKS: usize = 544;
 pub type Mark = (Relation, usize);
 
 /// A mark and the terms of its three sides.
+#[derive(PartialEq, Eq)]
 pub struct Row {
     pub relation: Relation,
     pub row: usize,
@@ -54,6 +55,25 @@ impl Listing {
             // Every row of the circuit has terms; what has none is padding.
             .filter(|row| row.sides.iter().any(|terms| !terms.is_empty()))
             .collect();
+        Listing { rows }
+    }
+
+    /// The rows of words that are in order.
+    pub fn of_words(words: &[u32]) -> Listing {
+        let mut rows: Vec<Row> = Vec::new();
+        for &word in words {
+            match house::read(word).expect("a word in order") {
+                Word::Mark { relation, row } => rows.push(Row {
+                    relation,
+                    row,
+                    sides: Default::default(),
+                }),
+                Word::Term { side, term } => {
+                    let row = rows.last_mut().expect("a mark before it");
+                    row.sides[side as usize].push(term);
+                }
+            }
+        }
         Listing { rows }
     }
 

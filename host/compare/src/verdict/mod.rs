@@ -4,15 +4,19 @@ pub mod answer;
 mod any_listing;
 pub mod batches;
 mod bits;
-mod boundary;
+pub mod boundary;
 mod circuit;
 pub mod constraints;
+mod each_column;
 mod each_row;
 pub mod forms;
 pub mod instructions;
 pub mod judge;
 pub mod lent;
 mod listings;
+mod named;
+mod one_word;
+mod pool;
 pub mod programs;
 mod reader;
 mod refusals;
@@ -23,7 +27,10 @@ use crate::report::Test;
 pub fn tests() -> Vec<Test> {
     let mut tests = circuit::tests();
     tests.extend(each_row::tests());
+    tests.extend(named::tests());
+    tests.extend(each_column::tests());
     tests.extend(any_listing::tests());
+    tests.extend(one_word::tests());
     tests.extend(refusals::tests());
     tests.extend(sums::tests());
     tests.extend(bits::tests());
@@ -33,5 +40,9 @@ pub fn tests() -> Vec<Test> {
 
 /// Batches on which the product's verdict is held against the original's.
 pub fn batches_judged() -> usize {
-    circuit::batches_judged() + each_row::batches_judged() + any_listing::batches_judged()
+    circuit::batches_judged()
+        + each_row::batches_judged()
+        + each_column::batches_judged()
+        + any_listing::batches_judged()
+        + one_word::batches_judged()
 }
