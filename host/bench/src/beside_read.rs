@@ -74,18 +74,20 @@ pub fn print_parts(checks: &[Checked]) {
         "unit",
         "`check_row`",
         "`check_house`",
+        "comparison with the table",
         "clearing of scratch",
         "sum of the parts",
         "`check_row` / sum",
         "best of",
     ]);
     for check in checks {
-        let sum = check.check_house + check.clear;
+        let sum = check.check_house + check.compare + check.clear;
         line(&[
             format!("cpi {}", check.cpi),
             "µs a cycle".into(),
             fine(check.check_row),
             fine(check.check_house),
+            fine(check.compare),
             fine(check.clear),
             fine(sum),
             ratio(check.check_row, sum),

@@ -23,7 +23,8 @@ pub struct Checked {
     /// No listing is lent.
     pub check_house: f64,
     pub check_house_plain: f64,
-    /// The clearing of scratch, once a batch.
+    /// The comparison of the listing with the table, and the clearing of scratch, once a batch.
+    pub compare: f64,
     pub clear: f64,
 }
 
@@ -36,13 +37,14 @@ impl Checked {
         let scratch = || vec![0; SCRATCH_WORDS];
         let (mut fast, mut plain, mut cleared) = (scratch(), scratch(), scratch());
         let units = cpi * batches;
-        let [original, read, check_house, clear, check_row, check_house_plain, check_row_plain] =
+        let [original, read, check_house, compare, clear, check_row, check_house_plain, check_row_plain] =
             in_turn(
                 Work { units, repetitions },
                 [
                     &mut || by_original(&spec, &accepted),
                     &mut || accepted.words.iter().for_each(|z| reads::words(cpi, z)),
                     &mut || each(cpi, &accepted, |z| product::check_house(cpi, z)),
+                    &mut || (0..batches).for_each(|_| assert!(product::is_house(listing()))),
                     &mut || (0..batches).for_each(|_| product::clear(black_box(&mut cleared))),
                     &mut || {
                         each(cpi, &accepted, |z| {
@@ -66,6 +68,7 @@ impl Checked {
             check_row_plain,
             check_house,
             check_house_plain,
+            compare,
             clear,
         }
     }

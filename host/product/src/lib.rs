@@ -49,6 +49,14 @@ mod c {
             scratch_len: usize,
         ) -> u64;
         pub fn compare_check_house_plain(cpi: usize, batch: *const u64, batch_len: usize) -> u64;
+        pub fn compare_is_house(listing: *const u32, listing_len: usize) -> u64;
+        pub fn compare_pack(
+            cpi: usize,
+            batch: *const u64,
+            batch_len: usize,
+            out: *mut u64,
+            out_len: usize,
+        ) -> u64;
         pub fn compare_read(words: *const u64, words_len: usize) -> u64;
         pub fn compare_read_bytes(bytes: *const u8, bytes_len: usize) -> u64;
         pub fn compare_clear(scratch: *mut u64, scratch_len: usize);
@@ -219,6 +227,25 @@ pub fn check_row_plain(cpi: usize, listing: &[u32], batch: &[u64], scratch: &mut
 /// The same verdict as `check_house` by the plain walk over the house listing.
 pub fn check_house_plain(cpi: usize, batch: &[u64]) -> u64 {
     unsafe { c::compare_check_house_plain(cpi, batch.as_ptr(), batch.len()) }
+}
+
+/// Whether the words are the house listing's.
+pub fn is_house(listing: &[u32]) -> bool {
+    unsafe { c::compare_is_house(listing.as_ptr(), listing.len()) == 1 }
+}
+
+/// Packs the columns that rows name by cycle, 32 words each: column c of cycle d is bit c % 64 of word
+/// 32 · d + c / 64. Says whether all columns that are looked at are 0 or 1; else `out` means nothing.
+pub fn pack(cpi: usize, batch: &[u64], out: &mut [u64]) -> bool {
+    unsafe {
+        c::compare_pack(
+            cpi,
+            batch.as_ptr(),
+            batch.len(),
+            out.as_mut_ptr(),
+            out.len(),
+        ) == 1
+    }
 }
 
 /// The bitwise or of all words: one plain read of them.

@@ -16,6 +16,7 @@ pub mod lent;
 mod listings;
 mod named;
 mod one_word;
+mod packing;
 mod pool;
 pub mod programs;
 mod reader;
@@ -31,6 +32,7 @@ pub fn tests() -> Vec<Test> {
     tests.extend(each_column::tests());
     tests.extend(any_listing::tests());
     tests.extend(one_word::tests());
+    tests.extend(packing::tests());
     tests.extend(refusals::tests());
     tests.extend(sums::tests());
     tests.extend(bits::tests());

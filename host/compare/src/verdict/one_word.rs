@@ -42,7 +42,7 @@ const OUTPUT: u128 = 0x5a;
 pub fn tests() -> Vec<Test> {
     let mut tests = vec![test(
         format!("check_row, {LISTINGS} listings that differ in one word, {IN_ORDER} in order"),
-        of_listings(LISTINGS, IN_ORDER) + listing::WORDS as u64,
+        of_listings(LISTINGS, IN_ORDER) + listing::WORDS as u64 + 1,
         each_word,
     )];
     for (cpi, stride, in_order) in SAMPLES {
@@ -56,8 +56,9 @@ pub fn tests() -> Vec<Test> {
     tests
 }
 
+/// Each is also held against the table.
 fn of_listings(listings: usize, in_order: usize) -> u64 {
-    in_order as u64 * OF_A_VERDICT + (listings - in_order) as u64 * OF_A_REFUSAL
+    in_order as u64 * OF_A_VERDICT + (listings - in_order) as u64 * OF_A_REFUSAL + listings as u64
 }
 
 /// Batches that these tests judge.
@@ -151,6 +152,8 @@ impl Circuit {
         let cycle = numbers.below(cpi as u64) as usize;
         let mut desk = Desk::of(&words, numbers);
         let place = || format!("word {word} changed in way {way}, {cpi} cycles");
+        let is_house = || format!("{}, is_house", place());
+        tally.same(is_house, product::is_house(&words), false);
         if let Some(right) = asked(&words) {
             let mut batch = self.pool.batch(start, cpi, cycle);
             refused(tally, cpi, &mut desk, &mut batch.words, right, &place);
@@ -171,6 +174,8 @@ impl Circuit {
 /// Of every word some change shows, if any leaves the listing in order.
 fn each_word(tally: &mut Tally) {
     let circuit = Circuit::new();
+    let own = product::is_house(&circuit.words);
+    tally.same(|| "is_house, the circuit's own words".into(), own, true);
     in_parts(tally, circuit.words.len(), |tally, word| {
         let judged = |way| circuit.judge(tally, 1, word, way);
         let shown: Vec<bool> = (0..WAYS).filter_map(judged).collect();
