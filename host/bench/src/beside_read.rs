@@ -67,7 +67,8 @@ The read is a loop that joins all words, or all bytes, of these columns by a bit
 the check is. `check_house` is the check without a listing lent. The original stands beside it with
 its `check_row`.";
 
-/// The check with the house listing lent, and what it is made of, each measured by itself.
+/// The check with the house listing lent, and what it is made of: each measured by itself, and all of
+/// them called one after the other.
 pub fn print_parts(checks: &[Checked]) {
     head(&[
         "`check_row` with the house listing lent",
@@ -77,7 +78,8 @@ pub fn print_parts(checks: &[Checked]) {
         "comparison with the table",
         "clearing of scratch",
         "sum of the parts",
-        "`check_row` / sum",
+        "the parts one after the other",
+        "`check_row` / these",
         "best of",
     ]);
     for check in checks {
@@ -90,7 +92,8 @@ pub fn print_parts(checks: &[Checked]) {
             fine(check.compare),
             fine(check.clear),
             fine(sum),
-            ratio(check.check_row, sum),
+            fine(check.in_sequence),
+            ratio(check.check_row, check.in_sequence),
             check.repetitions.to_string(),
         ]);
     }

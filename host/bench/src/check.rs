@@ -26,6 +26,9 @@ pub struct Checked {
     /// The comparison of the listing with the table, and the clearing of scratch, once a batch.
     pub compare: f64,
     pub clear: f64,
+    /// Comparison, check and clearing called one after the other, so that each finds the caches as the
+    /// others left them.
+    pub in_sequence: f64,
 }
 
 impl Checked {
@@ -35,9 +38,10 @@ impl Checked {
         let listing = inputs::listing();
         let listing = || black_box(&listing[..]);
         let scratch = || vec![0; SCRATCH_WORDS];
-        let (mut fast, mut plain, mut cleared) = (scratch(), scratch(), scratch());
+        let (mut fast, mut plain) = (scratch(), scratch());
+        let (mut cleared, mut behind) = (scratch(), scratch());
         let units = cpi * batches;
-        let [original, read, check_house, compare, clear, check_row, check_house_plain, check_row_plain] =
+        let [original, read, check_house, compare, clear, in_sequence, check_row, check_house_plain, check_row_plain] =
             in_turn(
                 Work { units, repetitions },
                 [
@@ -46,6 +50,14 @@ impl Checked {
                     &mut || each(cpi, &accepted, |z| product::check_house(cpi, z)),
                     &mut || (0..batches).for_each(|_| assert!(product::is_house(listing()))),
                     &mut || (0..batches).for_each(|_| product::clear(black_box(&mut cleared))),
+                    &mut || {
+                        each(cpi, &accepted, |z| {
+                            assert!(product::is_house(listing()));
+                            let rows = product::check_house(cpi, z);
+                            product::clear(black_box(&mut behind));
+                            rows
+                        });
+                    },
                     &mut || {
                         each(cpi, &accepted, |z| {
                             product::check_row(cpi, listing(), z, &mut fast)
@@ -70,6 +82,7 @@ impl Checked {
             check_house_plain,
             compare,
             clear,
+            in_sequence,
         }
     }
 }

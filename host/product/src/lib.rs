@@ -10,7 +10,7 @@ use std::ops::Range;
 
 /// The columns below 2,048 that the check of an accepted batch looks at: those that rows name, and some
 /// that lie between them. Of the public ones it looks at the two that rows name.
-pub const LOOKED_AT: [Range<usize>; 4] = [0..800, 832..864, 896..960, 1024..1136];
+pub const LOOKED_AT: [Range<usize>; 2] = [0..960, 1024..1152];
 
 /// A value, or the number of the question that was answered with no.
 pub type Answer = Result<u64, u64>;
@@ -50,7 +50,7 @@ mod c {
         ) -> u64;
         pub fn compare_check_house_plain(cpi: usize, batch: *const u64, batch_len: usize) -> u64;
         pub fn compare_is_house(listing: *const u32, listing_len: usize) -> u64;
-        pub fn compare_pack(
+        pub fn compare_pack_named(
             cpi: usize,
             batch: *const u64,
             batch_len: usize,
@@ -234,17 +234,18 @@ pub fn is_house(listing: &[u32]) -> bool {
     unsafe { c::compare_is_house(listing.as_ptr(), listing.len()) == 1 }
 }
 
-/// Packs the columns that rows name by cycle, 32 words each: column c of cycle d is bit c % 64 of word
-/// 32 · d + c / 64. Says whether all columns that are looked at are 0 or 1; else `out` means nothing.
-pub fn pack(cpi: usize, batch: &[u64], out: &mut [u64]) -> bool {
+/// Packs the columns that are looked at, 32 words a cycle: column c of cycle d is bit c % 64 of word
+/// 32 · d + c / 64, where all are bits. Returns 0 where they are, 1 where they are not. Refused: 2^63 +
+/// number · 2^32.
+pub fn pack_named(cpi: usize, batch: &[u64], out: &mut [u64]) -> u64 {
     unsafe {
-        c::compare_pack(
+        c::compare_pack_named(
             cpi,
             batch.as_ptr(),
             batch.len(),
             out.as_mut_ptr(),
             out.len(),
-        ) == 1
+        )
     }
 }
 

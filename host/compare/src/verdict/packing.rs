@@ -1,14 +1,15 @@
-//! A batch packed by cycle, against a reading of its columns one by one.
+//! A batch packed in cycle order, against a reading of its columns one by one: the answer, every word of
+//! the packed slice, and the refusals.
 
-use super::batches::{batch_column, bits, Batch, COLUMNS, WITNESS_COLUMNS};
+use super::batches::{batch_column, bits, Batch, COLUMNS};
 use super::lent::Lent;
-use super::named::Named;
 use crate::columns::SIZES;
 use crate::numbers::Numbers;
 use crate::parallel::in_parts;
 use crate::report::{test, Tally, Test};
 
 const WORDS_OF_A_CYCLE: usize = 32;
+const COLUMNS_OF_A_WORD: usize = 64;
 
 /// Batches of random bits, of each size.
 const BATCHES: [usize; 9] = [512, 256, 128, 64, 32, 16, 8, 4, 4];
@@ -18,8 +19,14 @@ const CHANGED: usize = 64;
 
 const NO_BITS: [u128; 5] = [2, 3, 1 << 64, (1 << 64) + 1, 1 << 127];
 
-/// Comparisons of one call: the answer, the words if it says that they mean something, what is lent.
+/// Sizes that are refused, and by how many words a slice is too long or too short.
+const OTHER_SIZES: [usize; 8] = [0, 3, 5, 48, 255, 257, 512, usize::MAX];
+const OTHER_LENGTHS: [isize; 4] = [-32, -1, 1, 32];
+
+/// Comparisons of one call: the answer, the packed slice with its guards, the batch with its guards.
 const OF_A_CALL: u64 = 3;
+
+const REFUSED: u64 = 1 << 63;
 
 pub fn tests() -> Vec<Test> {
     let of_size = |(cpi, batches): (usize, usize)| {
@@ -35,119 +42,117 @@ pub fn tests() -> Vec<Test> {
         (COLUMNS * NO_BITS.len()) as u64 * OF_A_CALL,
         each_column,
     ));
+    let of_a_size = 1 + 2 * OTHER_LENGTHS.len() as u64;
+    tests.push(test(
+        "packing, refused: size, batch, packed slice, and which is asked first",
+        (OTHER_SIZES.len() as u64 + SIZES.len() as u64 * of_a_size) * OF_A_CALL,
+        refusals,
+    ));
     tests
 }
 
-/// Where the answer must be, and whether it is that all columns looked at are bits. Of a column that no
-/// row names but that is looked at it may be either.
-#[derive(Clone, Copy, PartialEq)]
-enum Sort {
-    Named,
-    Between,
-    Ignored,
-}
-
-fn sort(named: &Named, cpi: usize, at: usize) -> Sort {
-    let looked_at = |column| product::LOOKED_AT.iter().any(|read| read.contains(&column));
-    if at >= WITNESS_COLUMNS * cpi {
-        Sort::Ignored
-    } else if named.has(cpi, at) {
-        Sort::Named
-    } else if looked_at(at / cpi) {
-        Sort::Between
-    } else {
-        Sort::Ignored
-    }
-}
-
 fn packed(tally: &mut Tally, cpi: usize, batches: usize) {
-    let named = Named::by_circuit();
     in_parts(tally, batches, |tally, part| {
         let mut numbers = Numbers::for_part(39, (cpi << 32 | part) as u64);
         let mut batch = Batch::of(cpi, bits(&mut numbers, cpi));
         let place = || format!("batch {part} of {cpi}");
-        pack(
-            tally,
-            &named,
-            &mut numbers,
-            &mut batch,
-            Sort::Ignored,
-            &place,
-        );
+        pack(tally, &mut numbers, &mut batch, &place);
         for _ in 0..CHANGED {
             let at = numbers.below((COLUMNS * cpi) as u64) as usize;
             let value = NO_BITS[numbers.below(NO_BITS.len() as u64) as usize];
             let before = batch.z[at].0;
             batch.put(at, value);
             let place = || format!("{}, batch column {at} is {value:#x}", place());
-            let sort = sort(&named, cpi, at);
-            pack(tally, &named, &mut numbers, &mut batch, sort, &place);
+            pack(tally, &mut numbers, &mut batch, &place);
             batch.put(at, before);
         }
     });
 }
 
 fn each_column(tally: &mut Tally) {
-    let named = Named::by_circuit();
     in_parts(tally, COLUMNS, |tally, column| {
         let mut numbers = Numbers::for_part(53, column as u64);
         let mut batch = Batch::of(1, bits(&mut numbers, 1));
         for value in NO_BITS {
             batch.put(column, value);
             let place = || format!("column {column} is {value:#x}");
-            let sort = sort(&named, 1, column);
-            pack(tally, &named, &mut numbers, &mut batch, sort, &place);
+            pack(tally, &mut numbers, &mut batch, &place);
         }
     });
 }
 
-/// Packs a batch of bits but for one column of a sort.
-fn pack(
-    tally: &mut Tally,
-    named: &Named,
-    numbers: &mut Numbers,
-    batch: &mut Batch,
-    sort: Sort,
-    place: &dyn Fn() -> String,
-) {
-    let cpi = batch.cpi;
-    let anything: Vec<u64> = (0..WORDS_OF_A_CYCLE * cpi)
-        .map(|_| numbers.next())
-        .collect();
-    let mut out = Lent::of(&anything);
-    let all_bits = product::pack(cpi, batch.words.words(), out.words_mut());
-    let right = match sort {
-        Sort::Named => false,
-        Sort::Between => all_bits,
-        Sort::Ignored => true,
-    };
-    tally.same(place, all_bits, right);
-    let first = if all_bits {
-        first_other(named, batch, out.words())
-    } else {
-        None
-    };
-    tally.same(|| format!("{}, column and cycle", place()), first, None);
-    for i in 0..out.len() {
-        out.must_become(i, out.words()[i]);
+/// Question 1 before 2, and 2 before 18.
+fn refusals(tally: &mut Tally) {
+    let mut numbers = Numbers::for_part(61, 0);
+    for cpi in OTHER_SIZES {
+        refused(tally, &mut numbers, cpi, [7, 7], 1);
     }
-    let lent = || format!("{}, batch and guards unchanged", place());
-    tally.same(lent, [out.is_right(), batch.words.is_right()], [true; 2]);
-}
-
-/// The first column that rows name, below the one column, that is packed as another bit.
-fn first_other(named: &Named, batch: &Batch, out: &[u64]) -> Option<(usize, usize)> {
-    for column in named.columns() {
-        for cycle in 0..batch.cpi {
-            if column >= WITNESS_COLUMNS {
-                break;
-            }
-            let word = out[WORDS_OF_A_CYCLE * cycle + column / 64];
-            let right = batch.z[batch_column(batch.cpi, column, cycle)].0;
-            if u128::from(word >> (column % 64) & 1) != right {
-                return Some((column, cycle));
-            }
+    for cpi in SIZES {
+        let (words, room) = (2 * COLUMNS * cpi, WORDS_OF_A_CYCLE * cpi);
+        let other = |right: usize, by: isize| right.saturating_add_signed(by);
+        refused(tally, &mut numbers, cpi, [words + 1, room + 1], 2);
+        for by in OTHER_LENGTHS {
+            refused(tally, &mut numbers, cpi, [other(words, by), room], 2);
+            refused(tally, &mut numbers, cpi, [words, other(room, by)], 18);
         }
     }
-    None
+}
+
+fn refused(
+    tally: &mut Tally,
+    numbers: &mut Numbers,
+    cpi: usize,
+    [words, room]: [usize; 2],
+    number: u64,
+) {
+    let mut batch = Lent::of(&anything(numbers, words));
+    let mut out = Lent::of(&anything(numbers, room));
+    let answer = product::pack_named(cpi, batch.words(), out.words_mut());
+    let place = || format!("{cpi} cycles, {words} and {room} words");
+    tally.same(place, answer, REFUSED + (number << 32));
+    let lent = || format!("{}, what is lent", place());
+    tally.same(lent, out.first_wrong(), None);
+    tally.same(lent, batch.first_wrong(), None);
+}
+
+fn pack(tally: &mut Tally, numbers: &mut Numbers, batch: &mut Batch, place: &dyn Fn() -> String) {
+    let cpi = batch.cpi;
+    let before = anything(numbers, WORDS_OF_A_CYCLE * cpi);
+    let mut out = Lent::of(&before);
+    let answer = product::pack_named(cpi, batch.words.words(), out.words_mut());
+    tally.same(place, answer, u64::from(!all_bits(batch)));
+    for (i, &word) in before.iter().enumerate() {
+        let (cycle, k) = (i / WORDS_OF_A_CYCLE, i % WORDS_OF_A_CYCLE);
+        let right = if looked_at(k * COLUMNS_OF_A_WORD) {
+            sum(batch, cycle, k)
+        } else {
+            word
+        };
+        out.must_become(i, right);
+    }
+    let packed = || format!("{}, packed slice and guards", place());
+    tally.same(packed, out.first_wrong(), None);
+    let lent = || format!("{}, batch and guards", place());
+    tally.same(lent, batch.words.first_wrong(), None);
+}
+
+fn looked_at(column: usize) -> bool {
+    product::LOOKED_AT.iter().any(|read| read.contains(&column))
+}
+
+/// Of the columns that are looked at, in every cycle.
+fn all_bits(batch: &Batch) -> bool {
+    let cpi = batch.cpi;
+    let is_bit = |column| (0..cpi).all(|cycle| batch.z[batch_column(cpi, column, cycle)].0 <= 1);
+    product::LOOKED_AT.into_iter().flatten().all(is_bit)
+}
+
+/// The low words of 64 columns, each at its bit, modulo 2^64: of bits, the word that they spell.
+fn sum(batch: &Batch, cycle: usize, k: usize) -> u64 {
+    let low = |j| batch.z[batch_column(batch.cpi, COLUMNS_OF_A_WORD * k + j, cycle)].0 as u64;
+    (0..COLUMNS_OF_A_WORD).fold(0, |sum: u64, j| sum.wrapping_add(low(j) << j))
+}
+
+fn anything(numbers: &mut Numbers, words: usize) -> Vec<u64> {
+    (0..words).map(|_| numbers.next()).collect()
 }
