@@ -5,6 +5,7 @@
 --     Columns    four columns of every cycle, and the 64 of a word
 --     Ranges     word after word
 --     One        the same for a batch of one cycle
+--     Named      the named words, and the call
 --     Words      of bits, a packed word is the cycle's word
 --     Example    a packed batch of two cycles
 pub mod Packed

@@ -17,40 +17,28 @@ returns : tie.Need-returns
 unfolding rowChecked
 returns c = refused _ _ _ (ne-eqb _ _ (c .if1 .taken))
 
-short-yes-requires : tie.Need-short-yes-requires
-short-yes-requires c κs = search needs
-
 returns-2 : tie.Need-returns-2
 unfolding rowChecked
 returns-2 c =
-    house-short 1 _ (row-fits (c .before .before .before .before .args .bytes .now) (λ i. omega (arith, c .before .before .before .shared-slice-known .given i))) (sym (c .before .short-yes .ensures) ∙ c .if2 .taken)
-    ∙ passed _ _ _ (eq-eqb _ _ (c .before .before .if1 .left))
-
-slice-aggregate-read-words : tie.Need-slice-aggregate-read-words
-slice-aggregate-read-words c = search needs
-
-read-words-requires : tie.Need-read-words-requires
-read-words-requires c κs = search needs
-
-slice-aggregate-check-house : tie.Need-slice-aggregate-check-house
-slice-aggregate-check-house c = search needs
-
-check-house-requires : tie.Need-check-house-requires
-check-house-requires c κs = search needs
+    let c2 = c .before .before in let c3 = c2 .before in let c4 = c3 .before in
+    house-short 1 _ (row-fits (c4 .args .bytes .now) (λ i. omega (arith, c3 .shared-slice-known .given i))) (sym (c .before .short-yes .ensures) ∙ c .if2 .taken)
+    ∙ passed _ _ _ (eq-eqb _ _ (c2 .if1 .left))
 
 returns-3 : tie.Need-returns-3
 unfolding rowChecked
-returns-3 c = c .check-house .ensures ∙ ap (houseChecked 1) (c .before .before .before .read-words .ensures) ∙ passed _ _ _ (eq-eqb _ _ (c .before .before .before .before .before .before .before .if1 .left))
+returns-3 c =
+    let c3 = c .before .before .before in let c7 = c3 .before .before .before .before in
+    c .check-house .ensures ∙ ap (houseChecked 1) (c3 .read-words .ensures) ∙ passed _ _ _ (eq-eqb _ _ (c7 .if1 .left))
 
 pub check-bytes-spec : {M : Type 1} → statement M
 check-bytes-spec =
     tie.close
     (tie.spec
     returns
-    short-yes-requires
+    (λ c κs. search needs)
     returns-2
-    slice-aggregate-read-words
-    read-words-requires
-    slice-aggregate-check-house
-    check-house-requires
+    (λ c. search needs)
+    (λ c κs. search needs)
+    (λ c. search needs)
+    (λ c κs. search needs)
     returns-3)

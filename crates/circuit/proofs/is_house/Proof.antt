@@ -24,9 +24,6 @@ abbrev μ-loop : tie.MeasureT-loop
 returns : tie.Need-returns Inv-loop μ-loop
 returns c = other-length (c .before .before .args .listing .now) circuitWords 3499 (c .if1 .taken) (counts .words)
 
-build-circuit-requires : tie.Need-build-circuit-requires Inv-loop μ-loop
-build-circuit-requires c κs = search needs
-
 loop-holds : tie.Need-loop-holds Inv-loop μ-loop
 loop-holds c = (search needs, compared-none (c .before .before .before .args .listing .now) (c .build-circuit .result))
 
@@ -49,14 +46,17 @@ loop-less : tie.Need-loop-less Inv-loop μ-loop
 loop-less c = omega (arith, c .before .before .before .before .if1 .left, c .before .loop-test .taken)
 
 loop-again : tie.Need-loop-again Inv-loop μ-loop
-loop-again c = let l = c .before .before .loop in (omega (arith, c .before .loop-test .taken), compared-more (c .before .before .before .before .before .before .args .listing .now) (c .before .before .before .build-circuit .result) (l .i) (l .different) (l .inv .1))
+loop-again c =
+    let c2 = c .before .before in let c3 = c2 .before in let c6 = c3 .before .before .before in
+    let l = c2 .loop in (omega (arith, c .before .loop-test .taken), compared-more (c6 .args .listing .now) (c3 .build-circuit .result) (l .i) (l .different) (l .inv .1))
 
 returns-2 : tie.Need-returns-2 Inv-loop μ-loop
 returns-2 c =
-    let l = c .before .loop in let a = c .before .before .before .before .before .args .listing .now in let e = c .before .before .build-circuit .ensures in
-    compared-all a circuitWords 3499 (l .different) (c .before .before .before .if1 .left) (counts .words)
+    let c2 = c .before .before in let c3 = c2 .before in let c5 = c3 .before .before in
+    let l = c .before .loop in let a = c5 .args .listing .now in let e = c2 .build-circuit .ensures in
+    compared-all a circuitWords 3499 (l .different) (c3 .if1 .left) (counts .words)
     (subst (λ (t : List ℕ). (l .different ≡ 0) ↔ SameBelow a t 3499) e
-    (subst (λ (n : ℕ). (l .different ≡ 0) ↔ SameBelow a (c .before .before .build-circuit .result) n) (omega (arith, l .inv .0, c .loop-test .left)) (l .inv .1)))
+    (subst (λ (n : ℕ). (l .different ≡ 0) ↔ SameBelow a (c2 .build-circuit .result) n) (omega (arith, l .inv .0, c .loop-test .left)) (l .inv .1)))
 
 pub is-house-spec : {M : Type 1} → statement M
 is-house-spec =
@@ -65,7 +65,7 @@ is-house-spec =
     Inv-loop
     μ-loop
     returns
-    build-circuit-requires
+    (λ c κs. search needs)
     loop-holds
     mul-different
     shared-slice-read-different

@@ -7,21 +7,14 @@ use borrow.Author.Needs.{needs}
 use Rattle.judge.proofs.check_house.Statement.{statement}
 use Rattle.judge.proofs.check_house.Tie as tie
 
-short-yes-requires : tie.Need-short-yes-requires
-short-yes-requires c κs = search needs
-
 mul-t4 : tie.Need-mul-t4
 mul-t4 c = omega (arith, short-few _ _ (sym (c .before .short-yes .ensures) ∙ c .if1 .taken))
 
 returns : tie.Need-returns
-returns c = house-short _ _ (λ i. omega (arith, c .before .before .shared-slice-known .given i)) (sym (c .before .short-yes .ensures) ∙ c .if1 .taken)
-
-check-house-requires : tie.Need-check-house-requires
-check-house-requires c κs = search needs
-
-returns-2 : tie.Need-returns-2
-returns-2 c = search needs
+returns c =
+    let c2 = c .before .before in
+    house-short _ _ (λ i. omega (arith, c2 .shared-slice-known .given i)) (sym (c .before .short-yes .ensures) ∙ c .if1 .taken)
 
 pub check-house-spec : {M : Type 1} → statement M
 check-house-spec =
-    tie.close (tie.spec short-yes-requires mul-t4 returns check-house-requires returns-2)
+    tie.close (tie.spec (λ c κs. search needs) mul-t4 returns (λ c κs. search needs) (λ c. search needs))

@@ -12,41 +12,27 @@ use borrow.Author.Needs.{needs}
 use Rattle.judge.proofs.check_row.Statement.{statement}
 use Rattle.judge.proofs.check_row.Tie as tie
 
-short-row-requires : tie.Need-short-row-requires
-short-row-requires c κs = search needs
-
-clear-requires : tie.Need-clear-requires
-clear-requires c κs = search needs
-
 mul-t10 : tie.Need-mul-t10
-mul-t10 c = omega (arith, short-few _ _ (c .before .before .before .before .before .short-row .ensures .0 (c .before .before .before .before .if1 .taken) .yes))
-
-same-length : tie.Need-same-length
-same-length c = search needs
+mul-t10 c =
+    let c4 = c .before .before .before .before in let c5 = c4 .before in
+    omega (arith, short-few _ _ (c5 .short-row .ensures .0 (c4 .if1 .taken) .yes))
 
 returns : tie.Need-returns
 returns c =
-    ap (λ (s : List ℕ). record { answer = Judged (Accepted (514 * c .before .before .before .before .before .before .before .before .before .args .cpi)); scratch = s }) (c .before .before .clear .ensures)
-    ∙ row-short _ _ _ _ (λ i. omega (arith, c .before .before .before .before .before .before .before .shared-slice-known2 .given i)) (c .before .before .before .before .before .short-row .ensures .0 (c .before .before .before .before .if1 .taken))
-
-check-row-requires : tie.Need-check-row-requires
-check-row-requires c κs = search needs
-
-same-length-2 : tie.Need-same-length-2
-same-length-2 c = search needs
-
-returns-2 : tie.Need-returns-2
-returns-2 c = search needs
+    let c2 = c .before .before in let c4 = c2 .before .before in let c5 = c4 .before in let c7 = c5 .before .before in
+    let c9 = c7 .before .before in
+    ap (λ (s : List ℕ). record { answer = Judged (Accepted (514 * c9 .args .cpi)); scratch = s }) (c2 .clear .ensures)
+    ∙ row-short _ _ _ _ (λ i. omega (arith, c7 .shared-slice-known2 .given i)) (c5 .short-row .ensures .0 (c4 .if1 .taken))
 
 pub check-row-spec : {M : Type 1} → statement M
 check-row-spec =
     tie.close
     (tie.spec
-    short-row-requires
-    clear-requires
+    (λ c κs. search needs)
+    (λ c κs. search needs)
     mul-t10
-    same-length
+    (λ c. search needs)
     returns
-    check-row-requires
-    same-length-2
-    returns-2)
+    (λ c κs. search needs)
+    (λ c. search needs)
+    (λ c. search needs))

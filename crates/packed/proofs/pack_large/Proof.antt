@@ -15,13 +15,9 @@ slice-aggregate-pack-many : tie.Need-slice-aggregate-pack-many
 slice-aggregate-pack-many c = sym (length-take-le _ _ (omega (arith, allowed-range _ (c .before .before .before .pre .size) .1)))
 
 pack-many-requires : tie.Need-pack-many-requires
-pack-many-requires c κs = (c .before .before .before .before .pre, length-take-le _ _ (omega (arith, allowed-range _ (c .before .before .before .before .pre .size) .1)))
-
-same-length : tie.Need-same-length
-same-length c = search needs
-
-returns : tie.Need-returns
-returns c = search needs
+pack-many-requires c κs =
+    let c4 = c .before .before .before .before in
+    (c4 .pre, length-take-le _ _ (omega (arith, allowed-range _ (c4 .pre .size) .1)))
 
 pub pack-large-spec : {M : Type 1} → statement M
 pack-large-spec =
@@ -30,5 +26,5 @@ pack-large-spec =
     array-borrow-prefix-acc
     slice-aggregate-pack-many
     pack-many-requires
-    same-length
-    returns)
+    (λ c. search needs)
+    (λ c. search needs))

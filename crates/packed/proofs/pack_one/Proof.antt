@@ -6,17 +6,10 @@ use borrow.Author.Needs.{needs}
 use Rattle.packed.proofs.pack_one.Statement.{statement}
 use Rattle.packed.proofs.pack_one.Tie as tie
 
-pack-words-requires : tie.Need-pack-words-requires
-pack-words-requires c κs = search needs
-
-pack-words-requires-2 : tie.Need-pack-words-requires-2
-pack-words-requires-2 c κs = search needs
-
-same-length : tie.Need-same-length
-same-length c = search needs
-
 returns : tie.Need-returns
-returns c = both-ranges 1 _ _ _ _ _ _ (omega arith) (c .before .before .before .before .before .before .pack-words .ensures) (c .before .before .pack-words2 .ensures)
+returns c =
+    let c2 = c .before .before in let c6 = c2 .before .before .before .before in
+    both-ranges 1 _ _ _ _ _ _ (omega arith) (c6 .pack-words .ensures) (c2 .pack-words2 .ensures)
 
 pub pack-one-spec : {M : Type 1} → statement M
-pack-one-spec = tie.close (tie.spec pack-words-requires pack-words-requires-2 same-length returns)
+pack-one-spec = tie.close (tie.spec (λ c κs. search needs) (λ c κs. search needs) (λ c. search needs) returns)

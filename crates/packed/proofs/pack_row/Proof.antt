@@ -22,21 +22,19 @@ pack-one-requires : tie.Need-pack-one-requires
 unfolding allowed
 pack-one-requires c κs = named-in _ _ _ refl (c .before .before .if1 .left) (c .before .if2 .left)
 
-same-length : tie.Need-same-length
-same-length c = search needs
-
 returns-3 : tie.Need-returns-3
 unfolding allowed
-returns-3 c = called-bits _ _ _ refl (c .before .before .before .before .before .before .if1 .left) (c .before .before .before .before .before .if2 .left) (c .before .before .before .pack-one .ensures) (c .if3 .taken)
-
-same-length-2 : tie.Need-same-length-2
-same-length-2 c = search needs
+returns-3 c =
+    let c3 = c .before .before .before in let c5 = c3 .before .before in let c6 = c5 .before in
+    called-bits _ _ _ refl (c6 .if1 .left) (c5 .if2 .left) (c3 .pack-one .ensures) (c .if3 .taken)
 
 returns-4 : tie.Need-returns-4
 unfolding allowed
-returns-4 c = called-not-bits _ _ _ refl (c .before .before .before .before .before .before .if1 .left) (c .before .before .before .before .before .if2 .left) (c .before .before .before .pack-one .ensures) (c .if3 .left)
+returns-4 c =
+    let c3 = c .before .before .before in let c5 = c3 .before .before in let c6 = c5 .before in
+    called-not-bits _ _ _ refl (c6 .if1 .left) (c5 .if2 .left) (c3 .pack-one .ensures) (c .if3 .left)
 
 pub pack-row-spec : {M : Type 1} → statement M
 pack-row-spec =
     tie.close
-    (tie.spec returns returns-2 pack-one-requires same-length returns-3 same-length-2 returns-4)
+    (tie.spec returns returns-2 pack-one-requires (λ c. search needs) returns-3 (λ c. search needs) returns-4)

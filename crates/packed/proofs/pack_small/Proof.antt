@@ -7,27 +7,20 @@ use borrow.Author.Needs.{needs}
 use Rattle.packed.proofs.pack_small.Statement.{statement}
 use Rattle.packed.proofs.pack_small.Tie as tie
 
-array-borrow-prefix-acc : tie.Need-array-borrow-prefix-acc
-array-borrow-prefix-acc c = search needs
-
 slice-aggregate-pack-many : tie.Need-slice-aggregate-pack-many
 slice-aggregate-pack-many c = sym (length-take-le _ _ (omega (arith, c .before .before .before .pre .1)))
 
 pack-many-requires : tie.Need-pack-many-requires
-pack-many-requires c κs = (c .before .before .before .before .pre .0, length-take-le _ _ (omega (arith, c .before .before .before .before .pre .1)))
-
-same-length : tie.Need-same-length
-same-length c = search needs
-
-returns : tie.Need-returns
-returns c = search needs
+pack-many-requires c κs =
+    let c4 = c .before .before .before .before in
+    (c4 .pre .0, length-take-le _ _ (omega (arith, c4 .pre .1)))
 
 pub pack-small-spec : {M : Type 1} → statement M
 pack-small-spec =
     tie.close
     (tie.spec
-    array-borrow-prefix-acc
+    (λ c. search needs)
     slice-aggregate-pack-many
     pack-many-requires
-    same-length
-    returns)
+    (λ c. search needs)
+    (λ c. search needs))

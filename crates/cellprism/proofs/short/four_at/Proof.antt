@@ -7,43 +7,21 @@ use borrow.Author.Needs.{needs}
 use Rattle.cellprism.proofs.short.four_at.Statement.{statement}
 use Rattle.cellprism.proofs.short.four_at.Tie as tie
 
-row-word-requires : tie.Need-row-word-requires
-row-word-requires c κs = search needs
-
-add-row-word : tie.Need-add-row-word
-add-row-word c = search needs
-
-row-word-requires-2 : tie.Need-row-word-requires-2
-row-word-requires-2 c κs = search needs
-
-add-row-word-2 : tie.Need-add-row-word-2
-add-row-word-2 c = search needs
-
-row-word-requires-3 : tie.Need-row-word-requires-3
-row-word-requires-3 c κs = search needs
-
-add-row-word-3 : tie.Need-add-row-word-3
-add-row-word-3 c = search needs
-
-row-word-requires-4 : tie.Need-row-word-requires-4
-row-word-requires-4 c κs = search needs
-
-four-requires : tie.Need-four-requires
-four-requires c κs = search needs
-
 returns : tie.Need-returns
-returns c = four-words (rowOf (c .before .before .before .before .before .before .args .bytes .now)) (c .before .before .before .before .before .before .args .i) (c .before .before .before .before .row-word .ensures) (c .before .before .before .row-word2 .ensures) (c .before .before .row-word3 .ensures) (c .before .row-word4 .ensures) (c .four .ensures)
+returns c =
+    let c2 = c .before .before in let c3 = c2 .before in let c4 = c3 .before in let c6 = c4 .before .before in
+    four-words (rowOf (c6 .args .bytes .now)) (c6 .args .i) (c4 .row-word .ensures) (c3 .row-word2 .ensures) (c2 .row-word3 .ensures) (c .before .row-word4 .ensures) (c .four .ensures)
 
 pub four-at-spec : {M : Type 1} → statement M
 four-at-spec =
     tie.close
     (tie.spec
-    row-word-requires
-    add-row-word
-    row-word-requires-2
-    add-row-word-2
-    row-word-requires-3
-    add-row-word-3
-    row-word-requires-4
-    four-requires
+    (λ c κs. search needs)
+    (λ c. search needs)
+    (λ c κs. search needs)
+    (λ c. search needs)
+    (λ c κs. search needs)
+    (λ c. search needs)
+    (λ c κs. search needs)
+    (λ c κs. search needs)
     returns)

@@ -7,14 +7,10 @@ use borrow.Author.Needs.{needs}
 use Rattle.cellprism.proofs.short.row_word.Statement.{statement}
 use Rattle.cellprism.proofs.short.row_word.Tie as tie
 
-mul-word-at : tie.Need-mul-word-at
-mul-word-at c = search needs
-
-word-at-requires : tie.Need-word-at-requires
-word-at-requires c κs = search needs
-
 returns : tie.Need-returns
-returns c = c .word-at .ensures ∙ sym (word-of 8192 (c .before .before .args .i) (c .before .before .args .bytes .now) (c .before .before .pre .1))
+returns c =
+    let c2 = c .before .before in
+    c .word-at .ensures ∙ sym (word-of 8192 (c2 .args .i) (c2 .args .bytes .now) (c2 .pre .1))
 
 pub row-word-spec : {M : Type 1} → statement M
-row-word-spec = tie.close (tie.spec mul-word-at word-at-requires returns)
+row-word-spec = tie.close (tie.spec (λ c. search needs) (λ c κs. search needs) returns)

@@ -26,34 +26,50 @@ add-row-word : tie.Need-add-row-word Inv-loop μ-loop
 add-row-word c = omega (arith, c .before .before .before .pre .0, c .before .before .before .pre .1, c .loop-test .taken)
 
 row-word-requires : tie.Need-row-word-requires Inv-loop μ-loop
-row-word-requires c κs = (c .before .before .before .pre .0, omega (arith, c .before .before .before .pre .0, c .before .before .before .pre .1, c .loop-test .taken))
+row-word-requires c κs =
+    let c3 = c .before .before .before in
+    (c3 .pre .0, omega (arith, c3 .pre .0, c3 .pre .1, c .loop-test .taken))
 
 mul-row-word-2 : tie.Need-mul-row-word-2 Inv-loop μ-loop
-mul-row-word-2 c = omega (arith, c .before .before .before .before .pre .0, c .before .before .before .before .pre .1, c .before .loop-test .taken)
+mul-row-word-2 c =
+    let c4 = c .before .before .before .before in
+    omega (arith, c4 .pre .0, c4 .pre .1, c .before .loop-test .taken)
 
 add-row-word-2 : tie.Need-add-row-word-2 Inv-loop μ-loop
-add-row-word-2 c = omega (arith, c .before .before .before .before .pre .0, c .before .before .before .before .pre .1, c .before .loop-test .taken)
+add-row-word-2 c =
+    let c4 = c .before .before .before .before in
+    omega (arith, c4 .pre .0, c4 .pre .1, c .before .loop-test .taken)
 
 add-row-word-3 : tie.Need-add-row-word-3 Inv-loop μ-loop
-add-row-word-3 c = omega (arith, c .before .before .before .before .pre .0, c .before .before .before .before .pre .1, c .before .loop-test .taken)
+add-row-word-3 c =
+    let c4 = c .before .before .before .before in
+    omega (arith, c4 .pre .0, c4 .pre .1, c .before .loop-test .taken)
 
 row-word-requires-2 : tie.Need-row-word-requires-2 Inv-loop μ-loop
-row-word-requires-2 c κs = (c .before .before .before .before .pre .0, omega (arith, c .before .before .before .before .pre .0, c .before .before .before .before .pre .1, c .before .loop-test .taken))
+row-word-requires-2 c κs =
+    let c4 = c .before .before .before .before in
+    (c4 .pre .0, omega (arith, c4 .pre .0, c4 .pre .1, c .before .loop-test .taken))
 
 add-j : tie.Need-add-j Inv-loop μ-loop
-add-j c = omega (arith, c .before .before .before .before .before .pre .0, c .before .before .before .before .before .pre .1, c .before .before .loop-test .taken)
+add-j c =
+    let c2 = c .before .before in let c5 = c2 .before .before .before in
+    omega (arith, c5 .pre .0, c5 .pre .1, c2 .loop-test .taken)
 
 loop-less : tie.Need-loop-less Inv-loop μ-loop
-loop-less c = omega (arith, c .before .before .before .before .before .pre .0, c .before .before .before .before .before .pre .1, c .before .before .loop-test .taken)
+loop-less c =
+    let c2 = c .before .before in let c5 = c2 .before .before .before in
+    omega (arith, c5 .pre .0, c5 .pre .1, c2 .loop-test .taken)
 
 loop-again : tie.Need-loop-again Inv-loop μ-loop
 loop-again c =
-    let l = c .before .before .before .loop in let a = c .before .before .before .before .before .args in
-    (omega (arith, c .before .before .loop-test .taken), seen-next (rowOf (a .bytes .now)) (λ (x : ℕ). a .i + 2 * x) (l .j) (l .low) (l .high) (c .before .row-word .ensures) (c .row-word2 .ensures) (l .inv .1))
+    let c2 = c .before .before in let c3 = c2 .before in let c5 = c3 .before .before in
+    let l = c3 .loop in let a = c5 .args in
+    (omega (arith, c2 .loop-test .taken), seen-next (rowOf (a .bytes .now)) (λ (x : ℕ). a .i + 2 * x) (l .j) (l .low) (l .high) (c .before .row-word .ensures) (c .row-word2 .ensures) (l .inv .1))
 
 returns : tie.Need-returns Inv-loop μ-loop
 returns c =
-    let l = c .before .loop in let a = c .before .before .before .args in let e : l .j ≡ 64 = omega (arith, l .inv .0, c .loop-test .left) in
+    let c3 = c .before .before .before in
+    let l = c .before .loop in let a = c3 .args in let e : l .j ≡ 64 = omega (arith, l .inv .0, c .loop-test .left) in
     seen-bits (rowOf (a .bytes .now)) (λ (x : ℕ). a .i + 2 * x) 64 (l .low) (l .high)
     (subst (λ (n : ℕ). Seen (rowOf (a .bytes .now)) (λ (x : ℕ). a .i + 2 * x) n (l .low) (l .high)) e (l .inv .1))
 

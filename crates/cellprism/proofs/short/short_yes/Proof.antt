@@ -8,57 +8,39 @@ use borrow.Author.Needs.{needs}
 use Rattle.cellprism.proofs.short.short_yes.Statement.{statement}
 use Rattle.cellprism.proofs.short.short_yes.Tie as tie
 
-element-requires : tie.Need-element-requires
-element-requires c κs = search needs
-
-one-requires : tie.Need-one-requires
-one-requires c κs = search needs
-
-same-requires : tie.Need-same-requires
-same-requires c κs = search needs
-
 returns : tie.Need-returns
-returns c = no-short _ (ap₂ same (sym (c .before .before .before .element .ensures)) (sym (c .before .before .one .ensures)) ∙ sym (c .before .same .ensures) ∙ not-true _ (c .if1 .taken))
-
-slice-aggregate-pack-words : tie.Need-slice-aggregate-pack-words
-slice-aggregate-pack-words c = search needs
-
-pack-words-requires : tie.Need-pack-words-requires
-pack-words-requires c κs = search needs
-
-slice-aggregate-pack-words-2 : tie.Need-slice-aggregate-pack-words-2
-slice-aggregate-pack-words-2 c = search needs
-
-pack-words-requires-2 : tie.Need-pack-words-requires-2
-pack-words-requires-2 c κs = search needs
+returns c =
+    let c2 = c .before .before in let c3 = c2 .before in
+    no-short _ (ap₂ same (sym (c3 .element .ensures)) (sym (c2 .one .ensures)) ∙ sym (c .before .same .ensures) ∙ not-true _ (c .if1 .taken))
 
 returns-2 : tie.Need-returns-2
-returns-2 c = not-short (c .before .before .before .before .before .before .before .before .before .before .before .before .args .bytes .now) _ _ _ _ (c .before .before .before .before .before .pack-words .ensures) (c .before .before .pack-words2 .ensures)
-    (ap₂ same (sym (c .before .before .before .before .before .before .before .before .before .before .element .ensures)) (sym (c .before .before .before .before .before .before .before .before .before .one .ensures)) ∙ sym (c .before .before .before .before .before .before .before .before .same .ensures) ∙ not-false _ (c .before .before .before .before .before .before .before .if1 .left)) (c .if2 .taken)
-
-element-requires-2 : tie.Need-element-requires-2
-element-requires-2 c κs = search needs
-
-judge-words-requires : tie.Need-judge-words-requires
-judge-words-requires c κs = search needs
+returns-2 c =
+    let c2 = c .before .before in let c5 = c2 .before .before .before in let c7 = c5 .before .before in let c8 = c7 .before in
+    let c9 = c8 .before in let c10 = c9 .before in let c12 = c10 .before .before in
+    not-short (c12 .args .bytes .now) _ _ _ _ (c5 .pack-words .ensures) (c2 .pack-words2 .ensures)
+    (ap₂ same (sym (c10 .element .ensures)) (sym (c9 .one .ensures)) ∙ sym (c8 .same .ensures) ∙ not-false _ (c7 .if1 .left)) (c .if2 .taken)
 
 returns-3 : tie.Need-returns-3
-returns-3 c = short-judged (c .before .before .before .before .before .before .before .before .before .before .before .before .before .before .before .args .bytes .now) _ _ _ _ (c .before .before .before .before .before .before .before .before .pack-words .ensures) (c .before .before .before .before .before .pack-words2 .ensures)
-    (ap₂ same (sym (c .before .before .before .before .before .before .before .before .before .before .before .before .before .element .ensures)) (sym (c .before .before .before .before .before .before .before .before .before .before .before .before .one .ensures)) ∙ sym (c .before .before .before .before .before .before .before .before .before .before .before .same .ensures) ∙ not-false _ (c .before .before .before .before .before .before .before .before .before .before .if1 .left)) (c .before .before .before .if2 .left) (c .before .element2 .ensures) (c .judge-words .ensures)
+returns-3 c =
+    let c3 = c .before .before .before in let c5 = c3 .before .before in let c8 = c5 .before .before .before in
+    let c10 = c8 .before .before in let c11 = c10 .before in let c12 = c11 .before in let c13 = c12 .before in
+    let c15 = c13 .before .before in
+    short-judged (c15 .args .bytes .now) _ _ _ _ (c8 .pack-words .ensures) (c5 .pack-words2 .ensures)
+    (ap₂ same (sym (c13 .element .ensures)) (sym (c12 .one .ensures)) ∙ sym (c11 .same .ensures) ∙ not-false _ (c10 .if1 .left)) (c3 .if2 .left) (c .before .element2 .ensures) (c .judge-words .ensures)
 
 pub short-yes-spec : {M : Type 1} → statement M
 short-yes-spec =
     tie.close
     (tie.spec
-    element-requires
-    one-requires
-    same-requires
+    (λ c κs. search needs)
+    (λ c κs. search needs)
+    (λ c κs. search needs)
     returns
-    slice-aggregate-pack-words
-    pack-words-requires
-    slice-aggregate-pack-words-2
-    pack-words-requires-2
+    (λ c. search needs)
+    (λ c κs. search needs)
+    (λ c. search needs)
+    (λ c κs. search needs)
     returns-2
-    element-requires-2
-    judge-words-requires
+    (λ c κs. search needs)
+    (λ c κs. search needs)
     returns-3)

@@ -7,9 +7,6 @@ use borrow.Author.Needs.{needs}
 use Rattle.compare.proofs.reads.compare_is_house.Statement.{statement}
 use Rattle.compare.proofs.reads.compare_is_house.Tie as tie
 
-is-house-requires : tie.Need-is-house-requires
-is-house-requires c κs = search needs
-
 returns : tie.Need-returns
 returns c = (omega arith, (λ _. c .before .is-house .ensures .0 (c .if1 .taken), λ _. refl))
 
@@ -17,4 +14,4 @@ returns-2 : tie.Need-returns-2
 returns-2 c = (omega arith, (λ e. absurd (omega (arith, e)), λ h. absurd (false≢true (sym (c .if1 .left) ∙ c .before .is-house .ensures .1 h))))
 
 pub compare-is-house-spec : {M : Type 1} → statement M
-compare-is-house-spec = tie.close (tie.spec is-house-requires returns returns-2)
+compare-is-house-spec = tie.close (tie.spec (λ c κs. search needs) returns returns-2)

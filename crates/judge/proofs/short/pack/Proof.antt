@@ -7,25 +7,12 @@ use borrow.Author.Needs.{needs}
 use Rattle.judge.proofs.short.pack.Statement.{statement}
 use Rattle.judge.proofs.short.pack.Tie as tie
 
-pack-row-requires : tie.Need-pack-row-requires
-pack-row-requires c κs = search needs
-
-same-length : tie.Need-same-length
-same-length c = search needs
-
 returns : tie.Need-returns
-returns c = c .before .before .pack-row .ensures ∙ ap (λ (n : ℕ). packCalled n (c .before .before .before .before .before .before .before .args .batch .now) (c .before .before .before .before .before .before .before .args .out .now)) (sym (c .before .before .before .before .if1 .taken))
-
-pack-named-requires : tie.Need-pack-named-requires
-pack-named-requires c κs = search needs
-
-same-length-2 : tie.Need-same-length-2
-same-length-2 c = search needs
-
-returns-2 : tie.Need-returns-2
-returns-2 c = search needs
+returns c =
+    let c2 = c .before .before in let c4 = c2 .before .before in let c7 = c4 .before .before .before in
+    c2 .pack-row .ensures ∙ ap (λ (n : ℕ). packCalled n (c7 .args .batch .now) (c7 .args .out .now)) (sym (c4 .if1 .taken))
 
 pub pack-spec : {M : Type 1} → statement M
 pack-spec =
     tie.close
-    (tie.spec pack-row-requires same-length returns pack-named-requires same-length-2 returns-2)
+    (tie.spec (λ c κs. search needs) (λ c. search needs) returns (λ c κs. search needs) (λ c. search needs) (λ c. search needs))

@@ -13,19 +13,9 @@ short-one-requires : tie.Need-short-one-requires
 short-one-requires c κs = of-one (c .if1 .taken) (c .before .before .pre)
 
 returns : tie.Need-returns
-returns c = c .short-one .ensures ∙ ap (λ (n : ℕ). shortBits n (c .before .before .before .args .batch .now) (replicate (32 * n) 0)) (sym (c .before .if1 .taken))
-
-short-small-requires : tie.Need-short-small-requires
-short-small-requires c κs = search needs
-
-returns-2 : tie.Need-returns-2
-returns-2 c = search needs
-
-short-large-requires : tie.Need-short-large-requires
-short-large-requires c κs = search needs
-
-returns-3 : tie.Need-returns-3
-returns-3 c = search needs
+returns c =
+    let c3 = c .before .before .before in
+    c .short-one .ensures ∙ ap (λ (n : ℕ). shortBits n (c3 .args .batch .now) (replicate (32 * n) 0)) (sym (c .before .if1 .taken))
 
 pub short-bits-spec : {M : Type 1} → statement M
 short-bits-spec =
@@ -33,7 +23,7 @@ short-bits-spec =
     (tie.spec
     short-one-requires
     returns
-    short-small-requires
-    returns-2
-    short-large-requires
-    returns-3)
+    (λ c κs. search needs)
+    (λ c. search needs)
+    (λ c κs. search needs)
+    (λ c. search needs))

@@ -10,9 +10,6 @@ use borrow.Author.Needs.{needs}
 use Rattle.judge.proofs.short.short_large.Statement.{statement}
 use Rattle.judge.proofs.short.short_large.Tie as tie
 
-mul-words : tie.Need-mul-words
-mul-words c = search needs
-
 array-borrow-prefix-out : tie.Need-array-borrow-prefix-out
 array-borrow-prefix-out c = omega (arith, in-range _ _ (c .before .pre))
 
@@ -20,18 +17,21 @@ slice-aggregate-pack-and-judge : tie.Need-slice-aggregate-pack-and-judge
 slice-aggregate-pack-and-judge c = sym (length-take-le _ _ (omega (arith, in-range _ _ (c .before .before .pre))))
 
 pack-and-judge-requires : tie.Need-pack-and-judge-requires
-pack-and-judge-requires c κs = named-in _ _ (c .before .before .pre) _ (length-take-le _ _ (omega (arith, in-range _ _ (c .before .before .pre))))
+pack-and-judge-requires c κs =
+    let c2 = c .before .before in
+    named-in _ _ (c2 .pre) _ (length-take-le _ _ (omega (arith, in-range _ _ (c2 .pre))))
 
 returns : tie.Need-returns
 returns c =
-    let a = c .before .before .before .before .args in
-    c .before .pack-and-judge .ensures ∙ ap (shortBits (a .cpi) (a .batch .now)) (zeros-taken (32 * a .cpi) 8192 (omega (arith, in-range _ _ (c .before .before .before .before .pre))))
+    let c4 = c .before .before .before .before in
+    let a = c4 .args in
+    c .before .pack-and-judge .ensures ∙ ap (shortBits (a .cpi) (a .batch .now)) (zeros-taken (32 * a .cpi) 8192 (omega (arith, in-range _ _ (c4 .pre))))
 
 pub short-large-spec : {M : Type 1} → statement M
 short-large-spec =
     tie.close
     (tie.spec
-    mul-words
+    (λ c. search needs)
     array-borrow-prefix-out
     slice-aggregate-pack-and-judge
     pack-and-judge-requires

@@ -10,12 +10,6 @@ use borrow.Author.Needs.{needs}
 use Rattle.judge.proofs.short.short_small.Statement.{statement}
 use Rattle.judge.proofs.short.short_small.Tie as tie
 
-mul-words : tie.Need-mul-words
-mul-words c = search needs
-
-array-borrow-prefix-out : tie.Need-array-borrow-prefix-out
-array-borrow-prefix-out c = search needs
-
 slice-aggregate-pack-and-judge : tie.Need-slice-aggregate-pack-and-judge
 slice-aggregate-pack-and-judge c = sym (length-take-le _ _ (omega (arith, c .before .before .pre .1)))
 
@@ -24,15 +18,16 @@ pack-and-judge-requires c κs = named-in _ _ (c .before .before .pre .0) _ (leng
 
 returns : tie.Need-returns
 returns c =
-    let a = c .before .before .before .before .args in
-    c .before .pack-and-judge .ensures ∙ ap (shortBits (a .cpi) (a .batch .now)) (zeros-taken (32 * a .cpi) 512 (omega (arith, c .before .before .before .before .pre .1)))
+    let c4 = c .before .before .before .before in
+    let a = c4 .args in
+    c .before .pack-and-judge .ensures ∙ ap (shortBits (a .cpi) (a .batch .now)) (zeros-taken (32 * a .cpi) 512 (omega (arith, c4 .pre .1)))
 
 pub short-small-spec : {M : Type 1} → statement M
 short-small-spec =
     tie.close
     (tie.spec
-    mul-words
-    array-borrow-prefix-out
+    (λ c. search needs)
+    (λ c. search needs)
     slice-aggregate-pack-and-judge
     pack-and-judge-requires
     returns)

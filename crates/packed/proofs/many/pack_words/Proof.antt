@@ -18,42 +18,52 @@ abbrev μ-loop : tie.MeasureT-loop
 loop-holds : tie.Need-loop-holds Inv-loop μ-loop
 loop-holds c = (c .before .before .before .pre .1 .0, (search needs, (c .before .before .before .pre .0 .order, no-range _ _ _ _)))
 
-clear-requires : tie.Need-clear-requires Inv-loop μ-loop
-clear-requires c κs = search needs
-
 word-columns-requires : tie.Need-word-columns-requires Inv-loop μ-loop
 word-columns-requires c κs =
-    let p = c .before .before .before .before .before .before .before .before .before .before .pre in let l = c .before .before .before .before .before .before .loop in let e = c .before .before .before .clear .ensures in
+    let c3 = c .before .before .before in let c5 = c3 .before .before in let c6 = c5 .before in
+    let c10 = c6 .before .before .before .before in
+    let p = c10 .pre in let l = c6 .loop in let e = c3 .clear .ensures in
     record {
       few = p .0 .few;
       words = p .0 .words;
       two = p .1 .1;
-      inside = omega (arith, p .0 .inside, c .before .before .before .before .before .loop-test .taken);
+      inside = omega (arith, p .0 .inside, c5 .loop-test .taken);
       sized = ap length e ∙ length-replicate (length (l .acc)) 0 ∙ l .inv .0;
       clear = cleared (length (l .acc)) e;
     }
 
 put-words-requires : tie.Need-put-words-requires Inv-loop μ-loop
 put-words-requires c κs =
-    let p = c .before .before .before .before .before .before .before .before .before .before .before .before .before .before .before .pre in let l = c .before .before .before .before .before .before .before .before .before .before .before .loop in let w = c .before .before .before .before .word-columns .ensures in
-    (omega (arith, p .0 .inside, c .before .before .before .before .before .before .before .before .before .before .loop-test .taken), omega (arith, w .sized, p .0 .room, l .inv .1 .1 .1 .lengths))
+    let c4 = c .before .before .before .before in let c10 = c4 .before .before .before .before .before .before in let c11 = c10 .before in
+    let c15 = c11 .before .before .before .before in
+    let p = c15 .pre in let l = c11 .loop in let w = c4 .word-columns .ensures in
+    (omega (arith, p .0 .inside, c10 .loop-test .taken), omega (arith, w .sized, p .0 .room, l .inv .1 .1 .1 .lengths))
 
 add-k : tie.Need-add-k Inv-loop μ-loop
-add-k c = omega (arith, c .before .before .before .before .before .before .before .before .before .before .before .before .before .before .before .before .before .before .pre .0 .inside, c .before .before .before .before .before .before .before .before .before .before .before .before .before .loop-test .taken)
+add-k c =
+    let c13 = c .before .before .before .before .before .before .before .before .before .before .before .before .before in
+    let c18 = c13 .before .before .before .before .before in
+    omega (arith, c18 .pre .0 .inside, c13 .loop-test .taken)
 
 loop-less : tie.Need-loop-less Inv-loop μ-loop
-loop-less c = omega (arith, c .before .before .before .before .before .before .before .before .before .before .before .before .before .before .before .before .before .before .pre .0 .inside, c .before .before .before .before .before .before .before .before .before .before .before .before .before .loop-test .taken)
+loop-less c =
+    let c13 = c .before .before .before .before .before .before .before .before .before .before .before .before .before in
+    let c18 = c13 .before .before .before .before .before in
+    omega (arith, c18 .pre .0 .inside, c13 .loop-test .taken)
 
 loop-again : tie.Need-loop-again Inv-loop μ-loop
 loop-again c =
-    let p = c .before .before .before .before .before .before .before .before .before .before .before .before .before .before .before .before .before .before .pre in let a = c .before .before .before .before .before .before .before .before .before .before .before .before .before .before .before .before .before .before .args in let l = c .before .before .before .before .before .before .before .before .before .before .before .before .before .before .loop in let w = c .before .before .before .before .before .before .before .word-columns .ensures in (
+    let c2 = c .before .before in let c7 = c2 .before .before .before .before .before in
+    let c13 = c7 .before .before .before .before .before .before in let c14 = c13 .before in
+    let c18 = c14 .before .before .before .before in
+    let p = c18 .pre in let a = c18 .args in let l = c14 .loop in let w = c7 .word-columns .ensures in (
       w .sized,
       (
         omega (arith, l .inv .1 .0),
         (
-          omega (arith, c .before .before .before .before .before .before .before .before .before .before .before .before .before .loop-test .taken),
+          omega (arith, c13 .loop-test .taken),
           next-range (a .cpi) (a .batch .now) (a .first) (l .k) _ (a .out .now) (l .out) _ (l .bad) _ (l .inv .1 .0)
-              (omega (arith, p .0 .inside, c .before .before .before .before .before .before .before .before .before .before .before .before .before .loop-test .taken)) (l .inv .1 .1 .1) w (c .before .before .put-words .ensures),
+              (omega (arith, p .0 .inside, c13 .loop-test .taken)) (l .inv .1 .1 .1) w (c2 .put-words .ensures),
         ),
       ),
     )
@@ -66,7 +76,8 @@ same-length-2 c = c .before .loop .inv .1 .1 .1 .lengths
 
 returns : tie.Need-returns Inv-loop μ-loop
 returns c =
-    let a = c .before .before .before .before .before .args in let l = c .before .loop in let e : l .k ≡ a .last = omega (arith, l .inv .1 .1 .0, c .loop-test .left) in
+    let c5 = c .before .before .before .before .before in
+    let a = c5 .args in let l = c .before .loop in let e : l .k ≡ a .last = omega (arith, l .inv .1 .1 .0, c .loop-test .left) in
     subst (λ (n : ℕ). Ranged (a .cpi) (a .batch .now) (a .first) n (a .out .now) (l .out) (l .bad)) e (l .inv .1 .1 .1)
 
 pub pack-words-spec : {M : Type 1} → statement M
@@ -76,7 +87,7 @@ pack-words-spec =
     Inv-loop
     μ-loop
     loop-holds
-    clear-requires
+    (λ c κs. search needs)
     word-columns-requires
     put-words-requires
     add-k

@@ -19,34 +19,51 @@ loop-holds : tie.Need-loop-holds Inv-loop μ-loop
 loop-holds c = (search needs, first-scattered _ _ _)
 
 mul-out : tie.Need-mul-out Inv-loop μ-loop
-mul-out c = let l = c .before .loop in omega (arith, c .before .before .pre .0, c .before .before .pre .1, l .inv .1 .lengths, c .loop-test .taken)
+mul-out c =
+    let c2 = c .before .before in
+    let l = c .before .loop in omega (arith, c2 .pre .0, c2 .pre .1, l .inv .1 .lengths, c .loop-test .taken)
 
 shared-slice-read-out : tie.Need-shared-slice-read-out Inv-loop μ-loop
-shared-slice-read-out c = let l = c .before .before .loop in omega (arith, c .before .before .before .pre .0, c .before .before .before .pre .1, l .inv .1 .lengths, c .before .loop-test .taken)
+shared-slice-read-out c =
+    let c2 = c .before .before in let c3 = c2 .before in
+    let l = c2 .loop in omega (arith, c3 .pre .0, c3 .pre .1, l .inv .1 .lengths, c .before .loop-test .taken)
 
 mul-out-2 : tie.Need-mul-out-2 Inv-loop μ-loop
-mul-out-2 c = let l = c .before .before .loop in omega (arith, c .before .before .before .pre .0, c .before .before .before .pre .1, l .inv .1 .lengths, c .before .loop-test .taken)
+mul-out-2 c =
+    let c2 = c .before .before in let c3 = c2 .before in
+    let l = c2 .loop in omega (arith, c3 .pre .0, c3 .pre .1, l .inv .1 .lengths, c .before .loop-test .taken)
 
 add-out : tie.Need-add-out Inv-loop μ-loop
-add-out c = let l = c .before .before .loop in omega (arith, c .before .before .before .pre .0, c .before .before .before .pre .1, l .inv .1 .lengths, c .before .loop-test .taken)
+add-out c =
+    let c2 = c .before .before in let c3 = c2 .before in
+    let l = c2 .loop in omega (arith, c3 .pre .0, c3 .pre .1, l .inv .1 .lengths, c .before .loop-test .taken)
 
 mul-out-3 : tie.Need-mul-out-3 Inv-loop μ-loop
-mul-out-3 c = let l = c .before .before .loop in omega (arith, c .before .before .before .pre .0, c .before .before .before .pre .1, l .inv .1 .lengths, c .before .loop-test .taken)
+mul-out-3 c =
+    let c2 = c .before .before in let c3 = c2 .before in
+    let l = c2 .loop in omega (arith, c3 .pre .0, c3 .pre .1, l .inv .1 .lengths, c .before .loop-test .taken)
 
 slice-write-out : tie.Need-slice-write-out Inv-loop μ-loop
-slice-write-out c = let l = c .before .before .loop in omega (arith, c .before .before .before .pre .0, c .before .before .before .pre .1, l .inv .1 .lengths, c .before .loop-test .taken)
+slice-write-out c =
+    let c2 = c .before .before in let c3 = c2 .before in
+    let l = c2 .loop in omega (arith, c3 .pre .0, c3 .pre .1, l .inv .1 .lengths, c .before .loop-test .taken)
 
 add-d : tie.Need-add-d Inv-loop μ-loop
-add-d c = let l = c .before .before .loop in omega (arith, c .before .before .before .pre .0, c .before .before .before .pre .1, l .inv .1 .lengths, c .before .loop-test .taken)
+add-d c =
+    let c2 = c .before .before in let c3 = c2 .before in
+    let l = c2 .loop in omega (arith, c3 .pre .0, c3 .pre .1, l .inv .1 .lengths, c .before .loop-test .taken)
 
 loop-less : tie.Need-loop-less Inv-loop μ-loop
-loop-less c = let l = c .before .before .loop in omega (arith, c .before .before .before .pre .0, c .before .before .before .pre .1, l .inv .1 .lengths, c .before .loop-test .taken)
+loop-less c =
+    let c2 = c .before .before in let c3 = c2 .before in
+    let l = c2 .loop in omega (arith, c3 .pre .0, c3 .pre .1, l .inv .1 .lengths, c .before .loop-test .taken)
 
 loop-again : tie.Need-loop-again Inv-loop μ-loop
 loop-again c =
-    let l = c .before .before .loop in let a = c .before .before .before .args in (
+    let c2 = c .before .before in let c3 = c2 .before in
+    let l = c2 .loop in let a = c3 .args in (
       omega (arith, c .before .loop-test .taken),
-      next-scattered (a .acc .now) (a .k) (l .d) (a .out .now) (l .out) (c .before .before .before .pre .0) (omega (arith, c .before .before .before .pre .0, c .before .before .before .pre .1, c .before .loop-test .taken)) (l .inv .1),
+      next-scattered (a .acc .now) (a .k) (l .d) (a .out .now) (l .out) (c3 .pre .0) (omega (arith, c3 .pre .0, c3 .pre .1, c .before .loop-test .taken)) (l .inv .1),
     )
 
 same-length : tie.Need-same-length Inv-loop μ-loop
@@ -54,7 +71,8 @@ same-length c = c .before .loop .inv .1 .lengths
 
 returns : tie.Need-returns Inv-loop μ-loop
 returns c =
-    let l = c .before .loop in let a = c .before .before .args in let e : l .d ≡ length (a .acc .now) = omega (arith, l .inv .0, c .loop-test .left) in
+    let c2 = c .before .before in
+    let l = c .before .loop in let a = c2 .args in let e : l .d ≡ length (a .acc .now) = omega (arith, l .inv .0, c .loop-test .left) in
     subst (λ (n : ℕ). Scattered (a .acc .now) (a .k) n (a .out .now) (l .out)) e (l .inv .1)
 
 pub put-words-spec : {M : Type 1} → statement M

@@ -19,39 +19,6 @@ abbrev μ-loop : tie.MeasureT-loop
 loop-holds : tie.Need-loop-holds Inv-loop μ-loop
 loop-holds c = (search needs, seen-none _ _)
 
-mul-low : tie.Need-mul-low Inv-loop μ-loop
-mul-low c = omega arith
-
-add-low : tie.Need-add-low Inv-loop μ-loop
-add-low c = omega arith
-
-mul-low-2 : tie.Need-mul-low-2 Inv-loop μ-loop
-mul-low-2 c = omega arith
-
-shared-slice-read-low : tie.Need-shared-slice-read-low Inv-loop μ-loop
-shared-slice-read-low c = omega arith
-
-mul-high : tie.Need-mul-high Inv-loop μ-loop
-mul-high c = omega arith
-
-add-high : tie.Need-add-high Inv-loop μ-loop
-add-high c = omega arith
-
-add-high-2 : tie.Need-add-high-2 Inv-loop μ-loop
-add-high-2 c = omega arith
-
-mul-high-2 : tie.Need-mul-high-2 Inv-loop μ-loop
-mul-high-2 c = omega arith
-
-shared-slice-read-high : tie.Need-shared-slice-read-high Inv-loop μ-loop
-shared-slice-read-high c = omega arith
-
-add-j : tie.Need-add-j Inv-loop μ-loop
-add-j c = omega arith
-
-loop-less : tie.Need-loop-less Inv-loop μ-loop
-loop-less c = omega arith
-
 loop-again : tie.Need-loop-again Inv-loop μ-loop
 loop-again c =
     let l = c .before .before .before .loop in let a = c .before .before .before .before .args in
@@ -59,7 +26,8 @@ loop-again c =
 
 returns : tie.Need-returns Inv-loop μ-loop
 returns c =
-    let l = c .before .loop in let a = c .before .before .args in let e : l .j ≡ 64 = omega arith in
+    let c2 = c .before .before in
+    let l = c .before .loop in let a = c2 .args in let e : l .j ≡ 64 = omega arith in
     seen-bits (a .batch .now) (λ (x : ℕ). a .i + 2 * x) 64 (l .low) (l .high) (subst (λ (n : ℕ). Seen (a .batch .now) (λ (x : ℕ). a .i + 2 * x) n (l .low) (l .high)) e (l .inv .1))
 
 pub seen-at-spec : {M : Type 1} → statement M
@@ -69,16 +37,16 @@ seen-at-spec =
     Inv-loop
     μ-loop
     loop-holds
-    mul-low
-    add-low
-    mul-low-2
-    shared-slice-read-low
-    mul-high
-    add-high
-    add-high-2
-    mul-high-2
-    shared-slice-read-high
-    add-j
-    loop-less
+    (λ c. omega arith)
+    (λ c. omega arith)
+    (λ c. omega arith)
+    (λ c. omega arith)
+    (λ c. omega arith)
+    (λ c. omega arith)
+    (λ c. omega arith)
+    (λ c. omega arith)
+    (λ c. omega arith)
+    (λ c. omega arith)
+    (λ c. omega arith)
     loop-again
     returns)

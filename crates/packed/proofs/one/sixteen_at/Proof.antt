@@ -5,45 +5,22 @@ use borrow.Author.Needs.{needs}
 use Rattle.packed.proofs.one.sixteen_at.Statement.{statement}
 use Rattle.packed.proofs.one.sixteen_at.Tie as tie
 
-four-at-requires : tie.Need-four-at-requires
-four-at-requires c κs = search needs
-
-add-four-at : tie.Need-add-four-at
-add-four-at c = search needs
-
-four-at-requires-2 : tie.Need-four-at-requires-2
-four-at-requires-2 c κs = search needs
-
-add-four-at-2 : tie.Need-add-four-at-2
-add-four-at-2 c = search needs
-
-four-at-requires-3 : tie.Need-four-at-requires-3
-four-at-requires-3 c κs = search needs
-
-add-four-at-3 : tie.Need-add-four-at-3
-add-four-at-3 c = search needs
-
-four-at-requires-4 : tie.Need-four-at-requires-4
-four-at-requires-4 c κs = search needs
-
-four-requires : tie.Need-four-requires
-four-requires c κs = search needs
-
 returns : tie.Need-returns
 returns c =
-    let a = c .before .before .before .before .before .before .args in
-    four-sums (a .batch .now) (a .i) 4 (c .before .before .before .before .four-at .ensures) (c .before .before .before .four-at2 .ensures) (c .before .before .four-at3 .ensures) (c .before .four-at4 .ensures) (c .four .ensures)
+    let c2 = c .before .before in let c3 = c2 .before in let c4 = c3 .before in let c6 = c4 .before .before in
+    let a = c6 .args in
+    four-sums (a .batch .now) (a .i) 4 (c4 .four-at .ensures) (c3 .four-at2 .ensures) (c2 .four-at3 .ensures) (c .before .four-at4 .ensures) (c .four .ensures)
 
 pub sixteen-at-spec : {M : Type 1} → statement M
 sixteen-at-spec =
     tie.close
     (tie.spec
-    four-at-requires
-    add-four-at
-    four-at-requires-2
-    add-four-at-2
-    four-at-requires-3
-    add-four-at-3
-    four-at-requires-4
-    four-requires
+    (λ c κs. search needs)
+    (λ c. search needs)
+    (λ c κs. search needs)
+    (λ c. search needs)
+    (λ c κs. search needs)
+    (λ c. search needs)
+    (λ c κs. search needs)
+    (λ c κs. search needs)
     returns)

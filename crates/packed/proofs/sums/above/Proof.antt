@@ -6,15 +6,9 @@ use borrow.Author.Needs.{needs}
 use Rattle.packed.proofs.sums.above.Statement.{statement}
 use Rattle.packed.proofs.sums.above.Tie as tie
 
-shl-wrapping-add-u64 : tie.Need-shl-wrapping-add-u64
-shl-wrapping-add-u64 c = search needs
-
-wrapping-add-u64-requires : tie.Need-wrapping-add-u64-requires
-wrapping-add-u64-requires c κs = search needs
-
 returns : tie.Need-returns
 unfolding pushed
 returns c = c .wrapping-add-u64 .ensures
 
 pub above-spec : {M : Type 1} → statement M
-above-spec = tie.close (tie.spec shl-wrapping-add-u64 wrapping-add-u64-requires returns)
+above-spec = tie.close (tie.spec (λ c. search needs) (λ c κs. search needs) returns)

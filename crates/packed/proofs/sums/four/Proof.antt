@@ -7,15 +7,6 @@ use borrow.Author.Needs.{needs}
 use Rattle.packed.proofs.sums.four.Statement.{statement}
 use Rattle.packed.proofs.sums.four.Tie as tie
 
-above-requires : tie.Need-above-requires
-above-requires c κs = search needs
-
-above-requires-2 : tie.Need-above-requires-2
-above-requires-2 c κs = search needs
-
-above-requires-3 : tie.Need-above-requires-3
-above-requires-3 c κs = search needs
-
 returns : tie.Need-returns
 returns c =
     let a = c .before .before .before .args in
@@ -24,4 +15,4 @@ returns c =
     (c .before .above2 .ensures ∙ ap (λ (w : ℕ). pushed (a .m % 64) w (a .b)) (c .before .before .above .ensures))
 
 pub four-spec : {M : Type 1} → statement M
-four-spec = tie.close (tie.spec above-requires above-requires-2 above-requires-3 returns)
+four-spec = tie.close (tie.spec (λ c κs. search needs) (λ c κs. search needs) (λ c κs. search needs) returns)
