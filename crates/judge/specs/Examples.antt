@@ -45,6 +45,8 @@ use Rattle.judge.specs.Words.{judgedWords, allJudged}
 use Rattle.judge.specs.Judges.{OverBits, judges}
 use Rattle.judge.specs.Filled.{filled-over, judges-filled}
 use Rattle.judge.specs.Named.{namedColumns, named}
+use Rattle.judge.specs.Short.{shortYes}
+use Rattle.judge.specs.Short.Laws.{short-over}
 
 -- ---- a cycle in which only the one column is given as 1: P6 of the bench sheet says which derived columns hold 1 then
 
@@ -165,8 +167,11 @@ module _ (cpi : ℕ) (some : 0 < cpi) where
     pub over : OverBits cpi (filled cpi (idle cpi))
     pub yes : JudgedYes cpi (filled cpi (idle cpi))
     pub accepted : allowed cpi ≡ true → judged cpi circuitWords (filled cpi (idle cpi)) ≡ Accepted (514 * cpi)
+    pub short : allowed cpi ≡ true → shortYes cpi (filled cpi (idle cpi)) ≡ true
 
   pub batch-examples : BatchExamples
   batch-examples =
       let over = filled-over cpi some (idle cpi) idle-premises in let yes = judges-filled cpi some (idle cpi) idle-premises .1 meets in
-      record { over = over; yes = yes; accepted = λ size. judges cpi size (filled cpi (idle cpi)) over .0 yes }
+      let accepted : allowed cpi ≡ true → judged cpi circuitWords (filled cpi (idle cpi)) ≡ Accepted (514 * cpi) =
+      λ size. judges cpi size (filled cpi (idle cpi)) over .0 yes in
+      record { over = over; yes = yes; accepted = accepted; short = λ size. short-over cpi (filled cpi (idle cpi)) size over .1 (accepted size) }

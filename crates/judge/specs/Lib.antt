@@ -3,8 +3,8 @@
 --     Words           the same of packed words: `judgedWords`, and of cycle after cycle `allJudged`
 --     Short           the short way to an accepted batch
 --     Judges, Named   what must stand in a batch: `OverBits`; `NamedBits`, over the columns that rows name
--- and the theorems are `judged-exactly` of Exactly, `judges` of Judges, `judges-named` and `named-packed` of Named, `judges-filled` of Filled, and
--- `judged-same`, `judged-agree` and `packed-batch` of Words.Same. Examples has what meets the definitions and what does not.
+-- and the theorems are `judged-exactly` of Exactly, `judges` of Judges, `judges-named` and `named-packed` of Named, `judges-filled` of Filled,
+-- `judged-same`, `judged-agree` and `packed-batch` of Words.Same, and `short-accepts` and `short-exactly` of Short.Laws. Examples has what meets the definitions and what does not.
 pub mod Judged
 pub mod Words
 pub mod Written

@@ -1,6 +1,7 @@
--- What the short way says yes to, the check accepts; and its words are those that are packed.
+-- What the short way says yes to, the check accepts; of bits it says yes to nothing less.
 -- Assumes nothing.
 use mathlib.Core.Path.{_≡_, refl, sym, ap, ap₂, subst, _∙_}
+use mathlib.Core.Logic.{_↔_}
 use mathlib.Core.Bool.{Bool, true, false, cond, _&&_}
 use mathlib.Core.List.{List, _∷_}
 use Prim.Native.Nat.{ℕ, zero, suc, _+_, _*_, _/_, _%_, _^_, _≤_, _<_}
@@ -11,7 +12,7 @@ use lib.Dec.{eqb}
 use lib.ListN.{length, getD, take, replicate, length-replicate}
 use Rattle.field.specs.declared.Gf128.{Gf128}
 use Rattle.field.specs.Gf.{one, same}
-use Rattle.field.specs.Gf.Tests.{same-true}
+use Rattle.field.specs.Gf.Tests.{same-true, same-self}
 use Rattle.layout.specs.declared.Refusal.{Refusal}
 use Rattle.layout.specs.declared.Asked.{Asked}
 use Rattle.layout.specs.declared.Asked.the-variants.{Yes}
@@ -29,14 +30,15 @@ use Rattle.verdict.specs.Row.{elementAt}
 use Rattle.verdict.specs.Check.{Checked, after, asked, judged, checked, houseChecked}
 use Rattle.packed.specs.declared.Packing.{Packing}
 use Rattle.packed.specs.declared.Packing.the-variants.{Bits, NotBits, Refused}
-use Rattle.packed.specs.Packed.{PackCalled, packCalled, packedWord, namedWord, packedAt, packedNamed, namedBits}
-use Rattle.packed.specs.Named.{NamedIn, called-is}
+use Rattle.packed.specs.Packed.{PackCalled, packCalled, packedWord, namedWord, packedAt, packedNamed, bitsFrom, namedBits}
+use Rattle.packed.specs.Named.{NamedIn, called-is, bits-each}
 use Rattle.packed.specs.Seen.{bit-words-are}
 use Rattle.packed.specs.Words.{named-range, column-bit, packed-word}
 use Rattle.judge.specs.Judged.{JudgedYes}
 use Rattle.judge.specs.Words.{wordsFrom, allJudged}
 use Rattle.judge.specs.Words.Same.{packed-batch}
-use Rattle.judge.specs.Named.{named, NamedBits, named-packed, judges-named}
+use Rattle.judge.specs.Judges.{OverBits}
+use Rattle.judge.specs.Named.{named, NamedBits, named-packed, judges-named, over-named}
 use Rattle.judge.specs.Short.{shortBits, shortYes, ShortIn, ShortRow}
 
 -- ---- the words of a packed slice are the cycles' own
@@ -67,6 +69,13 @@ parts cpi batch e =
     let a = both _ _ e in let b = both _ _ (a .1) in let c = both _ _ (b .1) in let d = both _ _ (c .1) in
     record { size = a .0; words = eqb-true _ _ (b .0); one-is = same-true _ _ (c .0); bits = d .0; cycles = d .1 }
 
+-- the cycles are judged from what is packed into zeros
+packed-cycles : (cpi : ℕ) → 0 < cpi → (batch : List ℕ) → namedBits cpi batch ≡ true
+    → (allJudged (packedNamed cpi batch (replicate (32 * cpi) 0)) (elementAt batch (2048 * cpi + 1)) cpi 0 ≡ true) ↔ JudgedYes cpi batch
+packed-cycles cpi some batch bits =
+    packed-batch cpi batch (packedNamed cpi batch (replicate (32 * cpi) 0))
+    (λ d k l t. packed-at cpi batch (replicate (32 * cpi) 0) (length-replicate (32 * cpi) 0) d k l t ∙ packed-word cpi some batch bits d l k t)
+
 -- a word of the code has 64 bits
 pub short-accepts : (cpi : ℕ) (batch : List ℕ) → ((i : ℕ) → getD batch i 0 < 2 ^ 64) → shortYes cpi batch ≡ true
     → judged cpi circuitWords batch ≡ Accepted (514 * cpi)
@@ -88,11 +97,31 @@ short-accepts cpi batch fit e = judges-named cpi (p .size) batch named-bits .0 y
         }
 
     yes : JudgedYes cpi batch
-    yes =
-        packed-batch cpi batch (packedNamed cpi batch (replicate (32 * cpi) 0))
-        (λ d k l t. packed-at cpi batch (replicate (32 * cpi) 0) (length-replicate (32 * cpi) 0) d k l t ∙ packed-word cpi some batch (p .bits) d l k t)
-        .0
-        (p .cycles)
+    yes = packed-cycles cpi some batch (p .bits) .0 (p .cycles)
+
+-- ---- and nothing is missed: of named columns that are bits it says yes exactly where the check accepts
+
+pub short-exactly : (cpi : ℕ) (batch : List ℕ) → allowed cpi ≡ true → NamedBits cpi batch → namedBits cpi batch ≡ true
+    → (shortYes cpi batch ≡ true) ↔ (judged cpi circuitWords batch ≡ Accepted (514 * cpi))
+unfolding shortYes shortBits
+short-exactly cpi batch size n bits = (
+  short-accepts cpi batch (n .fit),
+  λ a.
+      ap₂ _&&_ size
+      (ap₂ _&&_ (eq-eqb (length batch) (8192 * cpi) (n .words))
+      (ap₂ _&&_ (ap (λ (x : Gf128). same x one) (n .one-is) ∙ same-self one)
+      (ap₂ _&&_ bits (packed-cycles cpi (allowed-range cpi size .0) batch bits .1 (judges-named cpi size batch n .1 a))))),
+)
+
+-- so over bits, whatever stands in columns that no row names
+pub short-over : (cpi : ℕ) (batch : List ℕ) → allowed cpi ≡ true → OverBits cpi batch
+    → (shortYes cpi batch ≡ true) ↔ (judged cpi circuitWords batch ≡ Accepted (514 * cpi))
+unfolding namedBits
+short-over cpi batch size o =
+    short-exactly cpi batch size (over-named cpi batch o) (ap₂ _&&_ (stretch 0 (960 * cpi) (omega arith)) (stretch (1024 * cpi) (128 * cpi) (omega arith)))
+  where
+    stretch : (x n : ℕ) → x + n ≤ 2048 * cpi → bitsFrom batch x n ≡ true
+    stretch x n l = bits-each batch n x .1 (λ y _ m. bit-words-are batch y .0 (o .bits y (omega arith)))
 
 -- ---- as the entries have it
 
