@@ -93,7 +93,7 @@ fn verdict_is(v: Verdict, n: [u64; 8]) -> bool {
 // The check of the batch that was set up, against the house listing.
 pub fn check(n: [u64; 8], batch: &[u64], scratch: &mut [u64]) -> bool {
     let listing = circuit::build_circuit();
-    match verdict::check_row(n[0] as usize, &listing, batch, scratch) {
+    match judge::check_row(n[0] as usize, &listing, batch, scratch) {
         CheckAnswer::Judged(v) => verdict_is(v, n),
         CheckAnswer::Refused(r) => (n[1] == 3) & (r.number as u64 == n[2]),
     }
