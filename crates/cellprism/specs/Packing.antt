@@ -19,7 +19,7 @@ use Rattle.layout.specs.Batch.{allowed}
 use Rattle.verdict.specs.Row.{elementAt}
 use Rattle.packed.specs.Packed.{packedNamed, namedBits}
 use Rattle.packed.specs.Ranges.{Ranged}
-use Rattle.packed.specs.Named.{Named, both-ranges, named-out}
+use Rattle.packed.specs.Named.{Named, both-ranges, named-out, not-so}
 use Rattle.judge.specs.Words.{wordsFrom, judgedWords, allJudged}
 use Rattle.judge.specs.Words.Same.{judged-agree}
 use Rattle.judge.specs.Short.{shortBits, shortYes}
@@ -94,11 +94,7 @@ module _ (bytes now after : List ℕ) (low high : ℕ) (h : Ranged 1 (rowOf byte
   unfolding shortBits
   not-short f =
       ap (λ (t : Bool). t && allJudged (packedNamed 1 row (replicate 32 0)) (elementAt row 2049) 1 0)
-      (sym (not-true-false (namedBits 1 row) (λ e. f (named .bits .1 e)))) ∙ left
-    where
-      not-true-false : (t : Bool) → (t ≡ true → ⊥) → t ≡ false
-      not-true-false true g = absurd (g refl)
-      not-true-false false g = refl
+      (sym (not-so (namedBits 1 row) (λ e. f (named .bits .1 e)))) ∙ left
 
 pub no-short : (bytes : List ℕ) → same (elementAt (rowOf bytes) 2048) one ≡ false → false ≡ shortYes 1 (rowOf bytes)
 unfolding allowed

@@ -1,15 +1,14 @@
--- A batch of two cycles, all zero but for column 65 of cycle 1: bit 1 of word 33 alone is set. With a 2 there instead, the columns are no bits, and the
--- word is the sum that the definition says.
+-- A batch of two cycles, all zero but for column 65 of cycle 1: bit 1 of word 33 alone is set. With a 2 there instead, the word
+-- is the sum that the definition says.
 -- Assumes nothing.
 use mathlib.Core.Path.{_≡_, refl}
-use mathlib.Core.Bool.{true, false, cond}
+use mathlib.Core.Bool.{cond}
 use mathlib.Core.List.{List}
 use Prim.Native.Nat.{ℕ, _+_, _*_}
 use lib.Dec.{eqb}
-use lib.ListN.{getD, replicate}
-use Rattle.field.specs.Gf.{isBit, same}
+use lib.ListN.{replicate}
 use Rattle.circuit.specs.Rows.{from}
-use Rattle.packed.specs.Packed.{stacked, packedWord, packedAt, bitsFrom}
+use Rattle.packed.specs.Packed.{stacked, packedWord, packedAt}
 
 -- v in the low word of column 65 of cycle 1
 unfoldable pub example : ℕ → List ℕ

@@ -141,6 +141,11 @@ of-one {batch = b} {out = o} e h = subst (λ (n : ℕ). NamedIn n b o) e h
 pub one-named : {cpi bad : ℕ} {batch before after : List ℕ} → cpi ≡ 1 → Named 1 batch before after bad → Named cpi batch before after bad
 one-named {bad = r} {batch = b} {before = p} {after = q} e h = subst (λ (n : ℕ). Named n b p q r) (sym e) h
 
+-- a test that is not true is false
+pub not-so : (t : Bool) → (t ≡ true → ⊥) → t ≡ false
+not-so true g = absurd (g refl)
+not-so false g = refl
+
 -- ---- the call
 
 module _ (cpi : ℕ) (batch out : List ℕ) (size : allowed cpi ≡ true) (words : length batch ≡ 8192 * cpi) (room : length out ≡ 32 * cpi) where
@@ -161,11 +166,7 @@ module _ (cpi : ℕ) (batch out : List ℕ) (size : allowed cpi ≡ true) (words
   pub called-not-bits : {after : List ℕ} {bad : ℕ} → Named cpi batch out after bad → (bad ≡ 0 → ⊥)
       → _≡_ {A = PackCalled} (record { answer = NotBits; out = after }) (packCalled cpi batch out)
   called-not-bits {after} {bad} n f =
-      answered NotBits (ap (λ (t : Bool). cond t Bits NotBits) (not-true-false (namedBits cpi batch) (λ e. f (n .bits .1 e)))) after bad n
-    where
-      not-true-false : (t : Bool) → (t ≡ true → ⊥) → t ≡ false
-      not-true-false true g = absurd (g refl)
-      not-true-false false g = refl
+      answered NotBits (ap (λ (t : Bool). cond t Bits NotBits) (not-so (namedBits cpi batch) (λ e. f (n .bits .1 e)))) after bad n
 
 -- what the call says, read back where the questions are passed
 pub called-is : (cpi : ℕ) (batch out : List ℕ) → NamedIn cpi batch out → {a : Packing} {after : List ℕ}

@@ -1,6 +1,6 @@
 -- Of bits, a packed word is the word of its cycle's columns: column c of cycle d is bit c % 64 of word 32 · d + c / 64.
 -- Assumes nothing.
-use mathlib.Core.Path.{_≡_, refl, sym, ap, _∙_}
+use mathlib.Core.Path.{_≡_, refl, sym, ap, ap₂, _∙_}
 use mathlib.Core.Bool.{Bool, true, false, cond, not, _&&_, false≢true}
 use mathlib.Core.List.{List}
 use Prim.Native.Nat.{ℕ, _+_, _*_, _/_, _%_, _^_, _≤_, _<_}
@@ -32,6 +32,18 @@ pub named-range : (k : ℕ) → namedWord k ≡ true → (k < 18) × (k ≡ 15 �
 named-range k e =
     let p = both (ltb k 18) (not (eqb k 15)) e in (ltb-true k 18 (p .0), λ q. false≢true (ap not (sym (eq-eqb k 15 q)) ∙ p .1))
 
+-- where the words of a cycle stand in the packed slice
+pub packed-at : (cpi : ℕ) (batch out : List ℕ) → length out ≡ 32 * cpi → (d k : ℕ) → d < cpi → namedWord k ≡ true
+    → getD (packedNamed cpi batch out) (32 * d + k) 0 ≡ packedWord cpi batch d k
+unfolding packedNamed
+packed-at cpi batch out room d k l e =
+    let r = named-range k e in
+    let quotient : (32 * d + k) / 32 ≡ d = omega (arith, r .0) in let rest : (32 * d + k) % 32 ≡ k = omega (arith, r .0) in
+    getD-from (packedAt cpi batch out) 0 (length out) 0 (32 * d + k) (omega (arith, room, r .0))
+    ∙ ap (packedAt cpi batch out) (zero-add (32 * d + k))
+    ∙ ap₂ (λ (x j : ℕ). cond (namedWord j) (packedWord cpi batch x j) (getD out (32 * d + k) 0)) quotient rest
+    ∙ ap (λ (t : Bool). cond t (packedWord cpi batch d k) (getD out (32 * d + k) 0)) e
+
 module _ (cpi : ℕ) (some : 0 < cpi) (batch : List ℕ) (bits : namedBits cpi batch ≡ true) where
   -- every column of a named word is a bit, in every cycle
   pub column-bit : (c d : ℕ) → namedWord (c / 64) ≡ true → d < cpi → BitAt batch (2 * (c * cpi + d))
@@ -60,15 +72,6 @@ module _ (cpi : ℕ) (some : 0 < cpi) (batch : List ℕ) (bits : namedBits cpi b
     -- by columns, in the packed slice
     pub packed-column : (out : List ℕ) → length out ≡ 32 * cpi → (c : ℕ) → namedWord (c / 64) ≡ true
         → bitAt (getD (packedNamed cpi batch out) (32 * d + c / 64) 0) (c % 64) ≡ bitsOf cpi batch d c
-    unfolding packedNamed
     packed-column out room c e =
-        let k = c / 64 in let r = named-range k e in
-        let quotient : (32 * d + k) / 32 ≡ d = omega (arith, r .0) in let rest : (32 * d + k) % 32 ≡ k = omega (arith, r .0) in
-        ap (λ (w : ℕ). bitAt w (c % 64))
-        (getD-from (packedAt cpi batch out) 0 (length out) 0 (32 * d + k) (omega (arith, room, r .0))
-        ∙ ap (packedAt cpi batch out) (zero-add (32 * d + k))
-        ∙ ap (λ (j : ℕ). cond (namedWord j) (packedWord cpi batch ((32 * d + k) / 32) j) (getD out (32 * d + k) 0)) rest
-        ∙ ap (λ (t : Bool). cond t (packedWord cpi batch ((32 * d + k) / 32) k) (getD out (32 * d + k) 0)) e
-        ∙ ap (λ (x : ℕ). packedWord cpi batch x k) quotient
-        ∙ packed-word k e)
-        ∙ word-bit (bitsOf cpi batch d) (64 * k) 64 (c % 64) (omega arith) ∙ ap (bitsOf cpi batch d) (omega arith)
+        ap (λ (w : ℕ). bitAt w (c % 64)) (packed-at cpi batch out room d (c / 64) l e ∙ packed-word (c / 64) e)
+        ∙ word-bit (bitsOf cpi batch d) (64 * (c / 64)) 64 (c % 64) (omega arith) ∙ ap (bitsOf cpi batch d) (omega arith)

@@ -5,8 +5,7 @@ pub mod sums;
 
 use layout::Refusal;
 ghost use mathlib.Core.Path.{_≡_};
-ghost use mathlib.Core.Bool.{true};
-ghost use Prim.Native.Nat.{_+_, _*_, _<_, _≤_};
+ghost use Prim.Native.Nat.{_<_};
 ghost use lib.ListN.{length};
 ghost use Rattle.packed.specs.Packed.{PackCalled, packCalled};
 ghost use Rattle.packed.specs.Named.{Named, NamedIn};

@@ -31,28 +31,15 @@ use Rattle.verdict.specs.Check.{Checked, after, asked, judged, checked, houseCh
 use Rattle.packed.specs.declared.Packing.{Packing}
 use Rattle.packed.specs.declared.Packing.the-variants.{Bits, NotBits, Refused}
 use Rattle.packed.specs.Packed.{PackCalled, packCalled, packedWord, namedWord, packedAt, packedNamed, bitsFrom, namedBits}
-use Rattle.packed.specs.Named.{NamedIn, called-is, bits-each}
+use Rattle.packed.specs.Named.{NamedIn, called-is, bits-each, not-so}
 use Rattle.packed.specs.Seen.{bit-words-are}
-use Rattle.packed.specs.Words.{named-range, column-bit, packed-word}
+use Rattle.packed.specs.Words.{packed-at, column-bit, packed-word}
 use Rattle.judge.specs.Judged.{JudgedYes}
 use Rattle.judge.specs.Words.{wordsFrom, allJudged}
 use Rattle.judge.specs.Words.Same.{packed-batch}
 use Rattle.judge.specs.Judges.{OverBits}
 use Rattle.judge.specs.Named.{named, NamedBits, named-packed, judges-named, over-named}
 use Rattle.judge.specs.Short.{shortBits, shortYes, ShortIn, ShortRow}
-
--- ---- the words of a packed slice are the cycles' own
-
-packed-at : (cpi : ℕ) (batch out : List ℕ) → length out ≡ 32 * cpi → (d k : ℕ) → d < cpi → namedWord k ≡ true
-    → wordsFrom (packedNamed cpi batch out) (32 * d) k ≡ packedWord cpi batch d k
-unfolding packedNamed
-packed-at cpi batch out room d k l e =
-    let r = named-range k e in
-    let quotient : (32 * d + k) / 32 ≡ d = omega (arith, r .0) in let rest : (32 * d + k) % 32 ≡ k = omega (arith, r .0) in
-    getD-from (packedAt cpi batch out) 0 (length out) 0 (32 * d + k) (omega (arith, room, r .0))
-    ∙ ap (packedAt cpi batch out) (zero-add (32 * d + k))
-    ∙ ap₂ (λ (x j : ℕ). cond (namedWord j) (packedWord cpi batch x j) (getD out (32 * d + k) 0)) quotient rest
-    ∙ ap (λ (t : Bool). cond t (packedWord cpi batch d k) (getD out (32 * d + k) 0)) e
 
 -- ---- a yes
 
@@ -176,11 +163,7 @@ module _ (cpi : ℕ) (batch out : List ℕ) (h : NamedIn cpi batch out) where
       → (a ≡ Bits → ⊥) → false ≡ shortBits cpi batch out
   unfolding shortBits
   not-of-bits e f =
-      ap (λ (t : Bool). t && allJudged (packedNamed cpi batch out) (elementAt batch (2048 * cpi + 1)) cpi 0) (sym (bits-are-not (namedBits cpi batch) (λ q. f (called-is cpi batch out h e .0 ∙ ap (λ (t : Bool). cond t Bits NotBits) q))))
-    where
-      bits-are-not : (t : Bool) → (t ≡ true → ⊥) → t ≡ false
-      bits-are-not true g = absurd (g refl)
-      bits-are-not false g = refl
+      ap (λ (t : Bool). t && allJudged (packedNamed cpi batch out) (elementAt batch (2048 * cpi + 1)) cpi 0) (sym (not-so (namedBits cpi batch) (λ q. f (called-is cpi batch out h e .0 ∙ ap (λ (t : Bool). cond t Bits NotBits) q))))
 
 pub not-bits : {a : Packing} → a ≡ NotBits → a ≡ Bits → ⊥
 unfolding kind
