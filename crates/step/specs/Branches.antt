@@ -121,7 +121,7 @@ module _ (cpi : ℕ) (size : allowed cpi ≡ true) (f x y : ℕ) (lf : f < 8) (l
         let h = holds-branch in
         ap₂ (λ (g v : ℕ). branchHolds g v (word b RS2 64)) (h .funct3-reads) (h .rs1-reads) ∙ ap (branchHolds f x) (h .rs2-reads)
 
-  pub decided : (scratch : List ℕ) → length scratch ≡ 3072 → Decided cpi f x y scratch
+  decided : (scratch : List ℕ) → length scratch ≡ 3072 → Decided cpi f x y scratch
   decided scratch room =
       let proved = demand3 cpi size batch scratch room p in let yes = proved .accepted .1 steps in
       record {
@@ -151,27 +151,31 @@ module _ (cpi : ℕ) (size : allowed cpi ≡ true) (f x y : ℕ) (lf : f < 8) (l
       go false e =
           is-bit ∙ ap (λ (h : Bool). bitOf h) (no-true (b d l TAKEN) (λ t. false≢true (sym e ∙ k .taken d l .0 (is-bit ∙ ap (λ (h : Bool). bitOf h) t))))
 
+pub every-branch : (cpi : ℕ) → allowed cpi ≡ true → (f x y : ℕ) → f < 8 → x < 2 ^ 64 → y < 2 ^ 64
+    → (scratch : List ℕ) → length scratch ≡ 3072 → Decided cpi f x y scratch
+every-branch = decided
+
 -- ---- each funct3 by given words: one pair that is taken and one that is not, at every batch size and in every cycle
 
-abbrev pub Taken : ℕ → ℕ → ℕ → Type 0
-Taken f x y = (cpi : ℕ) → allowed cpi ≡ true → (d : ℕ) → d < cpi → cycleOf cpi (filled cpi (branchBatch cpi f x y)) d TAKEN ≡ one
+abbrev pub IsTaken : ℕ → ℕ → ℕ → Type 0
+IsTaken f x y = (cpi : ℕ) → allowed cpi ≡ true → (d : ℕ) → d < cpi → cycleOf cpi (filled cpi (branchBatch cpi f x y)) d TAKEN ≡ one
 
-abbrev pub NotTaken : ℕ → ℕ → ℕ → Type 0
-NotTaken f x y = (cpi : ℕ) → allowed cpi ≡ true → (d : ℕ) → d < cpi → cycleOf cpi (filled cpi (branchBatch cpi f x y)) d TAKEN ≡ zero
+abbrev pub IsNotTaken : ℕ → ℕ → ℕ → Type 0
+IsNotTaken f x y = (cpi : ℕ) → allowed cpi ≡ true → (d : ℕ) → d < cpi → cycleOf cpi (filled cpi (branchBatch cpi f x y)) d TAKEN ≡ zero
 
 -- 2^64 - 1 is the largest word unsigned, and -1 signed
 abbrev pub ones : ℕ
 ones = 2 ^ 64 - 1
 
 pub record EachFunct3 : Type 0 where
-  pub beq : Taken 0 7 7 × NotTaken 0 7 8
-  pub bne : Taken 1 7 8 × NotTaken 1 7 7
-  pub blt : Taken 4 ones 1 × NotTaken 4 1 ones
-  pub bge : Taken 5 1 ones × NotTaken 5 ones 1
-  pub bltu : Taken 6 1 ones × NotTaken 6 ones 1
-  pub bgeu : Taken 7 ones 1 × NotTaken 7 1 ones
+  pub beq : IsTaken 0 7 7 × IsNotTaken 0 7 8
+  pub bne : IsTaken 1 7 8 × IsNotTaken 1 7 7
+  pub blt : IsTaken 4 ones 1 × IsNotTaken 4 1 ones
+  pub bge : IsTaken 5 1 ones × IsNotTaken 5 ones 1
+  pub bltu : IsTaken 6 1 ones × IsNotTaken 6 ones 1
+  pub bgeu : IsTaken 7 ones 1 × IsNotTaken 7 1 ones
   -- 2 and 3 are never taken
-  pub neither : (x y : ℕ) → x < 2 ^ 64 → y < 2 ^ 64 → NotTaken 2 x y × NotTaken 3 x y
+  pub neither : (x y : ℕ) → x < 2 ^ 64 → y < 2 ^ 64 → IsNotTaken 2 x y × IsNotTaken 3 x y
 
 by-bit : (f x y : ℕ) → f < 8 → x < 2 ^ 64 → y < 2 ^ 64 → (h : Bool) → branchHolds f x y ≡ h
     → (cpi : ℕ) → allowed cpi ≡ true → (d : ℕ) → d < cpi → cycleOf cpi (filled cpi (branchBatch cpi f x y)) d TAKEN ≡ bitOf h
