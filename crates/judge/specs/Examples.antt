@@ -1,45 +1,32 @@
 -- The definitions met by examples: a cycle that is judged with yes, and cycles close to it that are judged with no; the same of packed words;
 -- which columns are named; and of every size a batch whose cycles are all judged with yes.
 -- Assumes nothing.
-use mathlib.Core.Path.{_≡_, refl, sym, ap, ap₂, subst, fun-ext, _∙_}
-use mathlib.Core.Bool.{Bool, true, false, or-false}
+use mathlib.Core.Path.{_≡_, refl, sym, subst, _∙_}
+use mathlib.Core.Bool.{Bool, true, false}
 use mathlib.Core.List.{List, [], _∷_, _++_}
 use Prim.Native.Nat.{ℕ, _+_, _*_, _-_, _^_, _<_}
-use native.Mathlib.Decide.{decLt}
-use native.Mathlib.Omega.{arith}
-use borrow.Author.Tests.{eqb-true, eqb-false, eq-eqb}
-use lib.Arith.{digits-lt}
-use lib.Dec.{eqb}
-use lib.ListN.{length, getD, set, drop, replicate, length-set, length-replicate}
-use lib.Seq.{getD-set-same, getD-set-other}
-use Rattle.field.specs.declared.Gf128.{Gf128}
-use Rattle.field.specs.Gf.{ofWords, zero, low, isBit}
+use lib.ListN.{getD, set, drop, replicate}
+use Rattle.field.specs.Gf.{ofWords, zero}
 use Rattle.field.specs.Gf.Laws.{words-zero}
-use Rattle.field.specs.Gf.Tests.{isBit-bit}
-use Rattle.field.specs.Gf.Bits.{bitOf, low-bit, bit-words}
-use Rattle.field.specs.Sums.{digit, val}
-use Rattle.field.specs.Sums.Laws.{digit-lt}
+use Rattle.field.specs.Sums.{val}
 use Rattle.layout.specs.Columns.{ONE-COL, RS1, SHIFT-OUT, HALT, IS-SHIFT}
-use Rattle.layout.specs.Batch.{allowed, columnAt}
-use Rattle.layout.specs.Mapping.{witness-column, public-column}
+use Rattle.layout.specs.Batch.{allowed}
 use Rattle.layout.specs.Lists.{joined}
 use Rattle.circuit.specs.Rows.{from, fromEach, numbered}
 use Rattle.circuit.specs.Circuit.{binFamilies, fldFamilies, circuitRows, circuitWords}
 use Rattle.verdict.specs.declared.Verdict.the-variants.{Accepted}
 use Rattle.verdict.specs.Depends as depends
 use Rattle.verdict.specs.Check.{judged}
-use Rattle.verdict.specs.Row.{elementAt, cycleOf}
-use Rattle.verdict.specs.Sheet.{zeros}
+use Rattle.verdict.specs.Row.{cycleOf}
 use Rattle.step.specs.Words.{bitsOf}
-use Rattle.step.specs.Numbers.{is-eqb}
 use Rattle.step.specs.Step.{Step}
 use Rattle.step.specs.Filling.{filled}
-use Rattle.step.specs.Placed.{each-word}
 use Rattle.step.specs.Demand3.{Premises}
 use Rattle.step.specs.Fill.Derive.{carryWord, runWord, laneWord, compareWord, branchWord, takenBit}
 use Rattle.step.specs.Met.{conditions, byteOf}
 use Rattle.step.specs.Ones.{has}
 use Rattle.step.specs.Sheet.{derivedOnes, calm}
+use Rattle.step.specs.Chosen.{batchOf, all-bits-of, cycle-is, premises-of}
 use Rattle.judge.specs.Judged.{judgedCycle, JudgedYes}
 use Rattle.judge.specs.Words.{judgedWords, allJudged}
 use Rattle.judge.specs.Judges.{OverBits, judges}
@@ -98,70 +85,22 @@ named-examples = record { some = (refl, refl); none = (refl, (refl, refl)) }
 
 -- ---- of every size, a batch in which only the one column is 1, and the filler's of it
 
-unfoldable pub idle : ℕ → List ℕ
-idle cpi = set (replicate (8192 * cpi) 0) (2 * (2048 * cpi)) 1
+abbrev pub idle : ℕ → List ℕ
+idle cpi = batchOf cpi (λ d c. false)
 
 module _ (cpi : ℕ) (some : 0 < cpi) where
-  idle-words : length (idle cpi) ≡ 8192 * cpi
-  unfolding idle
-  idle-words = length-set (replicate (8192 * cpi) 0) (2 * (2048 * cpi)) 1 ∙ length-replicate {A = ℕ} (8192 * cpi) 0
-
-  low-word : (x : ℕ) → getD (idle cpi) (2 * x) 0 ≡ digit (eqb x (2048 * cpi))
-  unfolding idle
-  low-word x = go (eqb x (2048 * cpi)) refl
-    where
-      at : ℕ
-      at = 2 * (2048 * cpi)
-
-      go : (b : Bool) → eqb x (2048 * cpi) ≡ b → getD (set (replicate (8192 * cpi) 0) at 1) (2 * x) 0 ≡ digit b
-      go true e =
-          ap (λ (k : ℕ). getD (set (replicate (8192 * cpi) 0) at 1) (2 * k) 0) (eqb-true x (2048 * cpi) e)
-          ∙ getD-set-same (replicate (8192 * cpi) 0) at 1 0 (omega (arith, length-replicate {A = ℕ} (8192 * cpi) 0))
-      go false e =
-          let apart = eqb-false x (2048 * cpi) e in
-          getD-set-other (replicate (8192 * cpi) 0) at (2 * x) 1 0 (λ q. apart (omega arith)) ∙ zeros (8192 * cpi) (2 * x)
-
-  high-word : (x : ℕ) → getD (idle cpi) (2 * x + 1) 0 ≡ 0
-  unfolding idle
-  high-word x = getD-set-other (replicate (8192 * cpi) 0) (2 * (2048 * cpi)) (2 * x + 1) 1 0 (omega arith) ∙ zeros (8192 * cpi) (2 * x + 1)
-
-  element-is : (x : ℕ) → elementAt (idle cpi) x ≡ bitOf (eqb x (2048 * cpi))
-  element-is x = ap₂ ofWords (low-word x) (high-word x) ∙ bit-words (eqb x (2048 * cpi))
-
   pub idle-premises : Premises cpi (idle cpi)
-  unfolding cycleOf
-  idle-premises =
-      record {
-        words = idle-words;
-        fit = each-word (λ (i : ℕ). getD (idle cpi) i 0 < 2 ^ 64)
-            (λ x. (omega (arith, low-word x, digit-lt (eqb x (2048 * cpi))), omega (arith, high-word x)));
-        given = λ c d _ _ _. ap isBit (element-is (columnAt cpi c d)) ∙ isBit-bit (eqb (columnAt cpi c d) (2048 * cpi));
-        one-is = element-is (2048 * cpi) ∙ ap (λ (b : Bool). bitOf b) (eq-eqb (2048 * cpi) (2048 * cpi) refl);
-      }
-
-  -- its cycles
-  column-one : (d : ℕ) → d < cpi → (c : ℕ) → eqb (columnAt cpi c d) (2048 * cpi) ≡ eqb c ONE-COL
-  column-one d l c =
-      is-eqb _ c ONE-COL (λ e. there (eqb-true _ _ e) (decLt c 2048)) (λ e. eq-eqb _ _ (ap (λ (k : ℕ). columnAt cpi k d) e ∙ public-column cpi ONE-COL d (omega arith) ∙ omega arith))
-    where
-      there : columnAt cpi c d ≡ 2048 * cpi → Dec (c < 2048) → c ≡ ONE-COL
-      there e (yes m) = absurd (omega (arith, e, witness-column cpi c d m, digits-lt {q = c} {m = 2048} {r = d} {c = cpi} m l))
-      there e (no f) = omega (arith, e, public-column cpi c d (omega arith))
-
-  bits-are : (d : ℕ) → d < cpi → bitsOf cpi (idle cpi) d ≡ has (ONE-COL ∷ [])
-  unfolding bitsOf cycleOf has
-  bits-are d l =
-      fun-ext (λ c. ap (λ (x : Gf128). eqb (low x) 1) (element-is (columnAt cpi c d)) ∙ low-bit _ ∙ column-one d l c ∙ sym (or-false (eqb c ONE-COL)))
+  idle-premises = premises-of cpi some (λ d c. false)
 
   output-is : (d : ℕ) → d < cpi → cycleOf cpi (idle cpi) d (ONE-COL + 1) ≡ ofWords 0 0
-  unfolding cycleOf
-  output-is d l = element-is (columnAt cpi (ONE-COL + 1) d) ∙ ap (λ (b : Bool). bitOf b) (column-one d l (ONE-COL + 1)) ∙ sym words-zero
+  output-is d l = cycle-is cpi some (λ d c. false) d l (ONE-COL + 1) ∙ sym words-zero
 
-  meets : (d : ℕ) → d < cpi → Step (bitsOf cpi (idle cpi) d) (cycleOf cpi (idle cpi) d (ONE-COL + 1))
-  unfolding has val
-  meets d l =
+  pub idle-meets : (d : ℕ) → d < cpi → Step (bitsOf cpi (idle cpi) d) (cycleOf cpi (idle cpi) d (ONE-COL + 1))
+  unfolding val
+  idle-meets d l =
       subst (Step (bitsOf cpi (idle cpi) d)) (sym (output-is d l))
-      (subst (λ (b : ℕ → Bool). Step b (ofWords 0 0)) (sym (bits-are d l)) (calm _ 0 refl refl refl refl refl refl refl refl refl refl (λ _. refl)))
+      (subst (λ (b : ℕ → Bool). Step b (ofWords 0 0)) (sym (all-bits-of cpi some (λ d c. false) d l))
+      (calm _ 0 refl refl refl refl refl refl refl refl refl refl (λ _. refl)))
 
   pub record BatchExamples : Type 0 where
     pub over : OverBits cpi (filled cpi (idle cpi))
@@ -171,7 +110,7 @@ module _ (cpi : ℕ) (some : 0 < cpi) where
 
   pub batch-examples : BatchExamples
   batch-examples =
-      let over = filled-over cpi some (idle cpi) idle-premises in let yes = judges-filled cpi some (idle cpi) idle-premises .1 meets in
+      let over = filled-over cpi some (idle cpi) idle-premises in let yes = judges-filled cpi some (idle cpi) idle-premises .1 idle-meets in
       let accepted : allowed cpi ≡ true → judged cpi circuitWords (filled cpi (idle cpi)) ≡ Accepted (514 * cpi) =
       λ size. judges cpi size (filled cpi (idle cpi)) over .0 yes in
       record { over = over; yes = yes; accepted = accepted; short = λ size. short-over cpi (filled cpi (idle cpi)) size over .1 (accepted size) }

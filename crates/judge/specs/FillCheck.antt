@@ -1,7 +1,9 @@
 -- Filling and checking in one call: the filler's questions, then the check of what it wrote. Demand 3 makes its acceptance a statement about the
--- batch as it came. The laws are in Laws.
+-- batch as it came. The laws are in Laws, given
+-- batches in Examples.
 -- Assumes nothing.
 pub mod Laws
+pub mod Examples
 use mathlib.Core.Path.{_≡_}
 use mathlib.Core.Logic.{_↔_}
 use mathlib.Core.Bool.{true}
