@@ -136,10 +136,10 @@ module _ (cpi : ℕ) (some : 0 < cpi) (b : ℕ → ℕ → Bool) where
 pub premises-whatever : (cpi : ℕ) (u w : List ℕ) → Premises cpi w → length u ≡ length w → ((i : ℕ) → getD u i 0 < 2 ^ 64)
     → ((x : ℕ) → x ≤ 2048 * cpi → NotDerived cpi x → elementAt u x ≡ elementAt w x) → Premises cpi u
 unfolding cycleOf
-premises-whatever cpi u w p lengths fit same =
+premises-whatever cpi u w p lengths words-fit same =
     record {
       words = lengths ∙ p .words;
-      fit = fit;
+      fit = words-fit;
       given = λ c d m l e.
           let inside : c * cpi + d < 2048 * cpi = digits-lt m l in
           ap isBit (same _ (omega (arith, witness-column cpi c d m)) (not-derived cpi c d l e)) ∙ p .given c d m l e;
