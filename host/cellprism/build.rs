@@ -1,25 +1,8 @@
-//! Links the proved library `libcellprism.a`, from the folder that `rt staticlib` writes to or from
-//! the one that `CELLPRISM_STATICLIB` names.
+//! Links the proved library, libcellprism.a.
 #![forbid(unsafe_code)]
 
-use std::env;
-use std::path::PathBuf;
+mod staticlib;
 
 fn main() {
-    let folder = staticlib_folder();
-    println!("cargo:rerun-if-env-changed=CELLPRISM_STATICLIB");
-    println!(
-        "cargo:rerun-if-changed={}",
-        folder.join("libcellprism.a").display()
-    );
-    println!("cargo:rustc-link-search=native={}", folder.display());
-    println!("cargo:rustc-link-lib=static=cellprism");
-}
-
-fn staticlib_folder() -> PathBuf {
-    if let Some(folder) = env::var_os("CELLPRISM_STATICLIB") {
-        return PathBuf::from(folder);
-    }
-    let manifest = env::var_os("CARGO_MANIFEST_DIR").expect("cargo names the manifest's folder");
-    PathBuf::from(manifest).join("../../target/staticlib")
+    staticlib::link("cellprism");
 }

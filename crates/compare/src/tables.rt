@@ -1,7 +1,9 @@
-// The columns of a cycle and its segments, entry by entry: 2^63 past the end.
+// The columns of a cycle, its segments and the widths of its fields, entry by entry: 2^63 past the end.
 ghost use mathlib.Core.Path.{_≡_};
-ghost use Rattle.layout.specs.Columns.{witnessLayout};
+ghost use Rattle.layout.specs.Batch.{DEFAULT-CPI};
+ghost use Rattle.layout.specs.Columns.{witnessLayout, fieldWidths};
 ghost use Rattle.compare.specs.Numbers.{entryOf, nameByte, segmentPart};
+use layout::columns::field_widths;
 use layout::columns::witness_layout;
 use layout::segments::segment_lengths;
 use layout::segments::segment_names;
@@ -21,6 +23,21 @@ pub extern "C" fn compare_layout(i: usize) -> u64
 {
     let columns = witness_layout();
     entry_of(&columns, i)
+}
+
+#[no_mangle]
+pub extern "C" fn compare_width(i: usize) -> u64
+    ensures { λ r. ⌜ r ≡ entryOf i fieldWidths ⌝ }
+{
+    let widths = field_widths();
+    entry_of(&widths, i)
+}
+
+#[no_mangle]
+pub extern "C" fn compare_default_cpi() -> u64
+    ensures { λ r. ⌜ r ≡ DEFAULT-CPI ⌝ }
+{
+    layout::default_cpi() as u64
 }
 
 fn name_byte(i: usize, k: u32) -> u64

@@ -26,6 +26,10 @@ among n (x ∷ xs) = eqb n x || among n xs
 unfoldable pub allowed : ℕ → Bool
 allowed cpi = among cpi sizes
 
+-- cycles of a batch where nobody chooses: the constant of src/lib.rt, which `default_cpi` ties to it
+abbrev pub DEFAULT-CPI : ℕ
+DEFAULT-CPI = 1
+
 unfoldable pub geometryOf : ℕ → GeometryAnswer
 geometryOf cpi =
     cond (allowed cpi)

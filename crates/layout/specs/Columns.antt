@@ -1,7 +1,33 @@
 -- The columns of one cycle, as `WITNESS_LAYOUT` places them; a word's or field's column is that of its bit 0. The same names are constants
--- in src/columns.rt, which says where they differ from the original's, and `witness_layout` ties the two. Assumes nothing.
+-- in src/columns.rt, which says where they differ from the original's; `witness_layout` and `field_widths` tie the two. Assumes nothing.
 use mathlib.Core.List.{List, [], _∷_}
 use Prim.Native.Nat.{ℕ, _+_, _-_, _/_}
+
+-- ---- how many bits a word has, and each field of the instruction bus
+
+-- a word
+abbrev pub W-BITS : ℕ
+W-BITS = 64
+
+-- opcode
+abbrev pub OP-BITS : ℕ
+OP-BITS = 7
+
+-- index of a register
+abbrev pub IDX-BITS : ℕ
+IDX-BITS = 6
+
+-- funct3
+abbrev pub FUNCT3-BITS : ℕ
+FUNCT3-BITS = 3
+
+-- immediate
+abbrev pub IMM-BITS : ℕ
+IMM-BITS = 13
+
+-- the widths above, in that order
+unfoldable pub fieldWidths : List ℕ
+fieldWidths = W-BITS ∷ OP-BITS ∷ IDX-BITS ∷ FUNCT3-BITS ∷ IMM-BITS ∷ []
 
 -- ---- the halves of a row z = (w, 1, x): the witness columns, the one column, the public values
 
@@ -245,7 +271,7 @@ ZE8 = 1126
 abbrev pub USED : ℕ
 USED = 1127
 
--- every name above, in that order
+-- every column above, in that order
 unfoldable pub witnessLayout : List ℕ
 witnessLayout =
     W-COLS ∷ ONE-COL ∷ M ∷ X-COLS

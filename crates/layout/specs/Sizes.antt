@@ -9,7 +9,7 @@ use native.Mathlib.Nat.{mod-eq-of-lt, not-suc-le-zero}
 use native.Mathlib.Omega.{arith}
 use borrow.Author.Tests.{eqb-true, eqb-false, ne-eqb}
 use lib.Dec.{eqb, lit≤}
-use Rattle.layout.specs.Batch.{sizes, among, allowed}
+use Rattle.layout.specs.Batch.{sizes, among, allowed, DEFAULT-CPI}
 use Rattle.layout.specs.Lists.{All, below-at}
 
 pub among-each : (P : ℕ → Type 0) (xs : List ℕ) → All P xs → (n : ℕ) → among n xs ≡ true → P n
@@ -34,6 +34,10 @@ pub allowed-power : (cpi : ℕ) → allowed cpi ≡ true → (k : ℕ) × ((k �
 allowed-power =
     each-size (λ n. (k : ℕ) × ((k ≤ 8) × (n ≡ 2 ^ k)))
     ((0, (lit≤ tt, refl)), ((1, (lit≤ tt, refl)), ((2, (lit≤ tt, refl)), ((3, (lit≤ tt, refl)), ((4, (lit≤ tt, refl)), ((5, (lit≤ tt, refl)), ((6, (lit≤ tt, refl)), ((7, (lit≤ tt, refl)), ((8, (lit≤ tt, refl)), tt)))))))))
+
+pub default-allowed : allowed DEFAULT-CPI ≡ true
+unfolding allowed
+default-allowed = refl
 
 -- ---- how the code tests: the sizes are the divisors of 256, by one computed test
 

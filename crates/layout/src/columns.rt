@@ -1,8 +1,19 @@
 // The columns of one cycle, as `WITNESS_LAYOUT` places them, and by its names, but for flags and fields of the instruction bus: there it
-// names positions (F_SUB is 0, BUS_RD is 7), and here stands the column itself (SUB, FETCH_RD). `witness_layout` hands all of them out,
-// proved equal to the names that specs use (specs/Columns.antt), so code and contracts cannot drift apart.
+// names positions (F_SUB is 0, BUS_RD is 7), and here stands the column itself (SUB, FETCH_RD). `witness_layout` hands out the columns and
+// `field_widths` the widths, proved equal to the names that specs use (specs/Columns.antt), so code and contracts cannot drift apart.
 ghost use mathlib.Core.Path.{_≡_};
-ghost use Rattle.layout.specs.Columns.{witnessLayout};
+ghost use Rattle.layout.specs.Columns.{witnessLayout, fieldWidths};
+
+// How many bits a word has, and each field of the instruction bus.
+pub const W_BITS: usize = 64; // a word
+
+pub const OP_BITS: usize = 7; // opcode
+
+pub const IDX_BITS: usize = 6; // index of a register
+
+pub const FUNCT3_BITS: usize = 3; // funct3
+
+pub const IMM_BITS: usize = 13; // immediate
 
 // The halves of a row z = (w, 1, x): the witness columns, the one column, the public values.
 pub const W_COLS: usize = 2048; // witness columns of a cycle
@@ -74,18 +85,18 @@ pub const LD_WORD: usize = FLAGS + 10; // load of all 64 bits
 
 pub const TAKEN: usize = FLAGS + 11; // the branch is taken: derived
 
-// Fields of the instruction bus: the column of each one's bit 0.
-pub const FETCH_OP: usize = FETCH; // opcode, 7 bits
+// Fields of the instruction bus, one after the other: the column of each one's bit 0.
+pub const FETCH_OP: usize = FETCH; // opcode
 
-pub const FETCH_RD: usize = FETCH + 7; // index of rd, 6 bits
+pub const FETCH_RD: usize = FETCH_OP + OP_BITS; // index of rd
 
-pub const FETCH_RS1: usize = FETCH + 13; // index of rs1, 6 bits
+pub const FETCH_RS1: usize = FETCH_RD + IDX_BITS; // index of rs1
 
-pub const FETCH_RS2: usize = FETCH + 19; // index of rs2, 6 bits
+pub const FETCH_RS2: usize = FETCH_RS1 + IDX_BITS; // index of rs2
 
-pub const FETCH_FUNCT3: usize = FETCH + 25; // funct3, 3 bits
+pub const FETCH_FUNCT3: usize = FETCH_RS2 + IDX_BITS; // funct3
 
-pub const FETCH_IMM: usize = FETCH + 28; // immediate, 13 bits
+pub const FETCH_IMM: usize = FETCH_FUNCT3 + FUNCT3_BITS; // immediate
 
 // Byte lanes, 8 columns each, one a lane a; then two gates.
 pub const EQA: usize = 896; // OFF is a
@@ -137,7 +148,14 @@ pub const ZE8: usize = 1126; // load, neither LD_WORD nor LD_HALF
 
 pub const USED: usize = 1127; // the first column that no row names
 
-// Every name above, in that order.
+// The widths above, in that order.
+pub fn field_widths() -> [usize; 5]
+    ensures { λ r. ⌜ r ≡ fieldWidths ⌝ }
+{
+    [W_BITS, OP_BITS, IDX_BITS, FUNCT3_BITS, IMM_BITS]
+}
+
+// Every column above, in that order.
 pub fn witness_layout() -> [usize; 63]
     ensures { λ r. ⌜ r ≡ witnessLayout ⌝ }
 {

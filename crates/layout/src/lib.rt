@@ -8,7 +8,9 @@ use crate::columns::W_COLS;
 ghost use mathlib.Core.Path.{_≡_};
 ghost use mathlib.Core.Bool.{true};
 ghost use Prim.Native.Nat.{_<_, _≤_};
-ghost use Rattle.layout.specs.Batch.{allowed, geometryOf, columnAt, mapped, unmapped};
+ghost use Rattle.layout.specs.Batch.{DEFAULT-CPI, allowed, geometryOf, columnAt, mapped, unmapped};
+
+pub const DEFAULT_CPI: usize = 1; // cycles of a batch where nobody chooses
 
 // A question of document 01 that was answered with no: its number, and the place (a word's index for 7 to 10, the smallest batch
 // column for 11, else 0).
@@ -57,6 +59,12 @@ pub fn is_allowed(cpi: usize) -> bool
         return false;
     }
     256 % cpi == 0
+}
+
+pub fn default_cpi() -> usize
+    ensures { λ r. ⌜ r ≡ DEFAULT-CPI ⌝ }
+{
+    DEFAULT_CPI
 }
 
 pub fn geometry(cpi: usize) -> GeometryAnswer

@@ -18,6 +18,7 @@ use crate::columns::STORE_OLD;
 use crate::columns::STORE_SRC;
 use crate::columns::T1;
 use crate::columns::T2;
+use crate::columns::W_BITS;
 use crate::columns::ZERO;
 ghost use mathlib.Core.Path.{_≡_};
 ghost use Rattle.layout.specs.Segments.{segments, segmentNames, segmentStarts, segmentLengths};
@@ -59,18 +60,18 @@ pub fn segment_lengths() -> [usize; 19]
     ensures { λ r. ⌜ r ≡ segmentLengths segments ⌝ }
 {
     [
-        64,
-        64,
-        64,
-        64,
-        64,
-        64,
-        64,
-        64,
-        64,
-        64,
-        64,
-        64,
+        W_BITS,
+        W_BITS,
+        W_BITS,
+        W_BITS,
+        W_BITS,
+        W_BITS,
+        W_BITS,
+        W_BITS,
+        W_BITS,
+        W_BITS,
+        W_BITS,
+        W_BITS,
         16,
         8,
         8,

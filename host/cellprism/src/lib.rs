@@ -9,7 +9,23 @@
 //! let row = vec![0; ROW_BYTES];
 //! assert_eq!(check_row(&row), Answer::Accepted { rows: 514 });
 //! ```
+//!
+//! A caller that goes on only with an accepted row takes the answer as a [`Result`]:
+//!
+//! ```
+//! use cellprism::{check_row, RowError, ROW_BYTES};
+//!
+//! fn rows_tested(row: &[u8]) -> Result<u32, RowError> {
+//!     let rows = check_row(row).into_result()?;
+//!     Ok(rows)
+//! }
+//!
+//! assert_eq!(rows_tested(&[0; ROW_BYTES]), Ok(514));
+//! assert_eq!(rows_tested(&[]), Err(RowError::Refused { number: 2 }));
+//! ```
+#![warn(missing_docs)]
 
+use std::error::Error;
 use std::fmt;
 
 /// Elements of a row.
@@ -20,6 +36,9 @@ pub const ELEMENT_BYTES: usize = 16;
 
 /// Bytes of a row.
 pub const ROW_BYTES: usize = ELEMENTS * ELEMENT_BYTES;
+
+/// The question of document 01 that asks for a row's length.
+const LENGTH: u32 = 2;
 
 mod c {
     extern "C" {
@@ -37,16 +56,51 @@ pub enum Relation {
 }
 
 /// What the check says of a row.
+///
+/// A match on it ends with an arm for whatever else there may be. That arm is not one for acceptance:
+///
+/// ```
+/// use cellprism::{check_row, Answer};
+///
+/// match check_row(&[]) {
+///     Answer::Accepted { rows } => println!("{rows} constraints hold"),
+///     answer => println!("not accepted: {answer}"),
+/// }
+/// ```
+///
+/// One that names today's three alone does not compile:
+///
+/// ```compile_fail
+/// use cellprism::{check_row, Answer};
+///
+/// match check_row(&[]) {
+///     Answer::Accepted { .. } => {}
+///     Answer::Failed { .. } => {}
+///     Answer::Refused { .. } => {}
+/// }
+/// ```
 #[must_use]
+#[non_exhaustive]
 #[derive(Clone, Copy, Debug, PartialEq, Eq, Hash)]
 pub enum Answer {
-    /// Every constraint holds; `rows` were tested.
-    Accepted { rows: u32 },
-    /// Constraint `row` of `relation` does not hold, and all before it do: bin comes before fld.
-    Failed { relation: Relation, row: u32 },
-    /// The row was not judged; `number` is that of the question in document 01 that was answered
-    /// with no. Of a row of another length than [`ROW_BYTES`] it is 2.
-    Refused { number: u32 },
+    /// Every constraint holds.
+    Accepted {
+        /// How many were tested.
+        rows: u32,
+    },
+    /// A constraint does not hold, and all before it do: bin comes before fld.
+    Failed {
+        /// The relation that the constraint is of.
+        relation: Relation,
+        /// The constraint's row in that relation.
+        row: u32,
+    },
+    /// The row was not judged.
+    Refused {
+        /// That of the question in document 01 that was answered with no. Of a row of another length
+        /// than [`ROW_BYTES`] it is 2.
+        number: u32,
+    },
 }
 
 impl Answer {
@@ -54,6 +108,73 @@ impl Answer {
     #[must_use]
     pub fn is_accepted(self) -> bool {
         matches!(self, Answer::Accepted { .. })
+    }
+
+    /// The number of constraints tested, or why the row was not accepted.
+    ///
+    /// ```
+    /// use cellprism::{Answer, Relation, RowError};
+    ///
+    /// assert_eq!(Answer::Accepted { rows: 514 }.into_result(), Ok(514));
+    ///
+    /// let relation = Relation::Bin;
+    /// let failed = Answer::Failed { relation, row: 263 };
+    /// assert_eq!(failed.into_result(), Err(RowError::Failed { relation, row: 263 }));
+    /// ```
+    ///
+    /// # Errors
+    ///
+    /// Every answer but [`Answer::Accepted`].
+    pub fn into_result(self) -> Result<u32, RowError> {
+        match self {
+            Answer::Accepted { rows } => Ok(rows),
+            Answer::Failed { relation, row } => Err(RowError::Failed { relation, row }),
+            Answer::Refused { number } => Err(RowError::Refused { number }),
+        }
+    }
+}
+
+/// Why a row was not accepted.
+///
+/// ```
+/// use cellprism::{check_row, RowError};
+///
+/// match check_row(&[]).into_result() {
+///     Ok(rows) => println!("{rows} constraints hold"),
+///     Err(RowError::Failed { relation, row }) => println!("look at row {row} of {relation}"),
+///     Err(error) => println!("{error}"),
+/// }
+/// ```
+#[non_exhaustive]
+#[derive(Clone, Copy, Debug, PartialEq, Eq, Hash)]
+pub enum RowError {
+    /// The row was judged, and a constraint does not hold: [`Answer::Failed`].
+    Failed {
+        /// The relation that the constraint is of.
+        relation: Relation,
+        /// The constraint's row in that relation.
+        row: u32,
+    },
+    /// The call was refused, and the row not judged: [`Answer::Refused`].
+    Refused {
+        /// That of the question in document 01 that was answered with no.
+        number: u32,
+    },
+}
+
+impl Error for RowError {}
+
+impl fmt::Display for RowError {
+    fn fmt(&self, f: &mut fmt::Formatter<'_>) -> fmt::Result {
+        match self {
+            RowError::Failed { relation, row } => {
+                write!(f, "row {row} of relation {relation} does not hold")
+            }
+            RowError::Refused { number: LENGTH } => {
+                write!(f, "refused with {LENGTH}: a row has {ROW_BYTES} bytes")
+            }
+            RowError::Refused { number } => write!(f, "refused with {number}"),
+        }
     }
 }
 

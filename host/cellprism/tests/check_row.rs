@@ -1,7 +1,8 @@
 //! The wrapper over the proved library, with no other judge than document 01.
 #![forbid(unsafe_code)]
 
-use cellprism::{check_row, Answer, Relation, ELEMENT_BYTES, ROW_BYTES};
+use cellprism::{check_row, Answer, Relation, RowError, ELEMENT_BYTES, ROW_BYTES};
+use std::error::Error;
 
 const ONE_COLUMN: usize = 2048;
 const OUTPUT_COLUMN: usize = 2049;
@@ -104,30 +105,86 @@ fn the_row_is_only_read() {
     assert_eq!(row, before);
 }
 
-#[test]
-fn answers_are_read_by_their_bits() {
-    let words = [
-        (0x0000_0000, Answer::Accepted { rows: 0 }),
-        (0x0000_0202, Answer::Accepted { rows: 514 }),
-        (0x3fff_ffff, Answer::Accepted { rows: 0x3fff_ffff }),
+/// Of every kind a few words, and what they say. Kind 3 is not given, and reads as a refusal.
+fn answers() -> Vec<(u32, Answer)> {
+    let accepted = |rows| Answer::Accepted { rows };
+    let refused = |number| Answer::Refused { number };
+    vec![
+        (0x0000_0000, accepted(0)),
+        (0x0000_0202, accepted(514)),
+        (0x3fff_ffff, accepted(0x3fff_ffff)),
         (0x4000_0000, failed(Relation::Bin, 0)),
         (0x4000_0107, failed(Relation::Bin, 263)),
         (0x4000_01ff, failed(Relation::Bin, 511)),
         (0x6000_0000, failed(Relation::Fld, 0)),
         (0x6000_001e, failed(Relation::Fld, 30)),
-        (0x8000_0002, Answer::Refused { number: 2 }),
-        (0x8000_000f, Answer::Refused { number: 15 }),
-    ];
-    for (word, answer) in words {
+        (0x8000_0000, refused(0)),
+        (0x8000_0002, refused(2)),
+        (0x8000_000f, refused(15)),
+        (0xc000_0000, refused(0)),
+        (0xc000_0202, refused(514)),
+        (0xffff_ffff, refused(0x3fff_ffff)),
+    ]
+}
+
+#[test]
+fn answers_are_read_by_their_bits() {
+    for (word, answer) in answers() {
         assert_eq!(Answer::from(word), answer, "{word:08x}");
     }
 }
 
 #[test]
-fn an_unknown_kind_is_never_accepted() {
-    for word in [0xc000_0000, 0xc000_0202, 0xffff_ffff] {
-        assert!(!Answer::from(word).is_accepted(), "{word:08x}");
+fn kind_0_alone_is_accepted() {
+    for (word, _) in answers() {
+        let answer = Answer::from(word);
+        assert_eq!(answer.is_accepted(), word >> 30 == 0, "{word:08x}");
+        assert_eq!(answer.into_result().is_ok(), word >> 30 == 0, "{word:08x}");
     }
+}
+
+#[test]
+fn a_result_holds_what_the_answer_does() {
+    for (word, answer) in answers() {
+        let right = match answer {
+            Answer::Accepted { rows } => Ok(rows),
+            Answer::Failed { relation, row } => Err(RowError::Failed { relation, row }),
+            Answer::Refused { number } => Err(RowError::Refused { number }),
+            other => panic!("{other} is no answer that a word has"),
+        };
+        assert_eq!(Answer::from(word).into_result(), right, "{word:08x}");
+    }
+}
+
+#[test]
+fn results_of_rows() {
+    let accepted = row_with(&[]);
+    let fails_bin = row_with(&[(ONE_COLUMN, 1)]);
+    let fails_fld = row_with(&[(CARRY_0, 1)]);
+    let error = |relation, row| Err(RowError::Failed { relation, row });
+    assert_eq!(check_row(&accepted).into_result(), Ok(514));
+    let refused = check_row(&accepted[1..]).into_result();
+    assert_eq!(refused, Err(RowError::Refused { number: 2 }));
+    assert_eq!(
+        check_row(&fails_bin).into_result(),
+        error(Relation::Bin, 263)
+    );
+    assert_eq!(check_row(&fails_fld).into_result(), error(Relation::Fld, 2));
+}
+
+/// A caller with errors of several types takes any of them, and can ask later which it was.
+#[test]
+fn an_error_passes_through_a_box() {
+    fn rows_tested(row: &[u8]) -> Result<u32, Box<dyn Error + Send + Sync>> {
+        Ok(check_row(row).into_result()?)
+    }
+    assert_eq!(rows_tested(&row_with(&[])).ok(), Some(514));
+    let error = rows_tested(&[]).expect_err("no byte is no row");
+    assert_eq!(
+        error.downcast_ref(),
+        Some(&RowError::Refused { number: 2 }),
+        "{error}"
+    );
 }
 
 #[test]
@@ -140,5 +197,19 @@ fn answers_print_as_rowcheck_does() {
     ];
     for (word, text) in texts {
         assert_eq!(Answer::from(word).to_string(), text);
+    }
+}
+
+#[test]
+fn errors_print_as_sentences() {
+    let texts = [
+        (0x4000_0107, "row 263 of relation bin does not hold"),
+        (0x6000_0003, "row 3 of relation fld does not hold"),
+        (0x8000_0002, "refused with 2: a row has 65536 bytes"),
+        (0x8000_0006, "refused with 6"),
+    ];
+    for (word, text) in texts {
+        let error = Answer::from(word).into_result().expect_err(text);
+        assert_eq!(error.to_string(), text);
     }
 }

@@ -5,6 +5,7 @@ use crate::report::{test, Tally, Test};
 use magnetar_cpu::{SEGMENTS_CPU, WITNESS_LAYOUT};
 
 const COLUMNS: usize = 63;
+const WIDTHS: usize = 5;
 const SEGMENTS: usize = 19;
 const NAME_BYTES: usize = 9;
 
@@ -26,12 +27,13 @@ pub fn tests() -> Vec<Test> {
             COLUMNS as u64 + 1,
             columns_all,
         ),
+        test("widths and default batch size", WIDTHS as u64 + 2, widths),
         test("segments' starts", 2 * segments, starts),
         test("segments' lengths", segments + 1, lengths),
         test("segments' names", segments, names),
         test(
-            "past the last column, segment and part",
-            past + past * u64::from(PARTS) + 3 * segments,
+            "past the last column, width, segment and part",
+            2 * past + past * u64::from(PARTS) + 3 * segments,
             past_end,
         ),
     ]
@@ -69,6 +71,17 @@ fn columns_all(tally: &mut Tally) {
         let place = || format!("constant {i}, {name}");
         tally.same(place, product::layout(i), Some(column as u64));
     }
+}
+
+fn widths(tally: &mut Tally) {
+    let right = constants!(from 0; W_BITS OP_BITS IDX_BITS FUNCT3_BITS IMM_BITS);
+    tally.same(|| "number of widths".into(), WIDTHS, right.len());
+    for (i, (name, bits)) in right.into_iter().enumerate() {
+        let place = || format!("width {i}, {name}");
+        tally.same(place, product::width(i), Some(bits as u64));
+    }
+    let right = WITNESS_LAYOUT::DEFAULT_CPI as u64;
+    tally.same(|| "DEFAULT_CPI".into(), product::default_cpi(), right);
 }
 
 /// Twice: by the constants, and by the original's rule that offsets are aligned to the lengths.
@@ -112,6 +125,8 @@ fn past_end(tally: &mut Tally) {
     for past in PAST {
         let i = COLUMNS + past;
         tally.same(|| format!("column {i}"), product::layout(i), None);
+        let i = WIDTHS + past;
+        tally.same(|| format!("width {i}"), product::width(i), None);
         for part in 0..PARTS {
             let i = SEGMENTS + past;
             let place = || format!("part {part} of segment {i}");

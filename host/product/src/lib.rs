@@ -29,6 +29,8 @@ mod c {
         pub fn compare_batched(cpi: usize, cycle: usize, word: u32) -> u64;
         pub fn compare_layout(i: usize) -> u64;
         pub fn compare_segment(i: usize, part: u32) -> u64;
+        pub fn compare_width(i: usize) -> u64;
+        pub fn compare_default_cpi() -> u64;
         pub fn compare_check_row(
             cpi: usize,
             listing: *const u32,
@@ -186,6 +188,16 @@ pub fn layout(i: usize) -> Option<u64> {
 /// Part 0 is the start of segment i, 1 its length, 2 + k byte k of its name.
 pub fn segment(i: usize, part: u32) -> Option<u64> {
     answer(unsafe { c::compare_segment(i, part) }).ok()
+}
+
+/// Width i of a word and the fields of the bus, in the order of the proved library's own table.
+pub fn width(i: usize) -> Option<u64> {
+    answer(unsafe { c::compare_width(i) }).ok()
+}
+
+/// Cycles of a batch where nobody chooses.
+pub fn default_cpi() -> u64 {
+    unsafe { c::compare_default_cpi() }
 }
 
 /// The verdict on a batch, two words an element. Accepted: rows. Failed: 2^62 + relation · 2^61 +
