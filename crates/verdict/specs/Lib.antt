@@ -12,4 +12,5 @@ pub mod Verdicts
 pub mod Depends
 pub mod OverBits
 pub mod Sheet
+pub mod LaterCycles
 pub mod Agree

@@ -58,12 +58,12 @@ module _ (z : ℕ → Gf128) (none : (c : ℕ) → z c ≡ gf.zero) where
   term-zero Zero c = refl
   term-zero (Power k) c = ap (λ x. product x (power k)) (none c) ∙ zero-mul (power k)
 
-  sum-zero : (ts : List Term) → sumOf z ts ≡ gf.zero
+  pub sum-zero : (ts : List Term) → sumOf z ts ≡ gf.zero
   unfolding sumOf
   sum-zero [] = refl
   sum-zero (t ∷ ts) = ap₂ added (term-zero (t .coefficient) (t .column)) (sum-zero ts) ∙ add-nothing gf.zero
 
-  holds-zero : (s : Sides) → holds z s ≡ true
+  pub holds-zero : (s : Sides) → holds z s ≡ true
   unfolding balanced
   holds-zero s = ap₂ same (ap₂ product (sum-zero (s .a)) (sum-zero (s .b)) ∙ zero-mul gf.zero) (sum-zero (s .c)) ∙ same-self gf.zero
 
@@ -88,19 +88,23 @@ oneRow = set (replicate 8192 0) 4096 1
 abbrev isOneColumn : ℕ → Bool
 isOneColumn c = eqb c 2048
 
-word-other : (i : ℕ) → (i ≡ 4096 → ⊥) → getD oneRow i 0 ≡ 0
-word-other i f = getD-set-other (replicate 8192 0) 4096 i 1 0 f ∙ zeros 8192 i
+-- zeros, and 1 in element p: as bits
+pub element-alone : (n p c : ℕ) → 2 * p < n → elementAt (set (replicate n 0) (2 * p) 1) c ≡ bitOf (eqb c p)
+element-alone n p c h = by-test (eqb c p) refl
+  where
+    word-other : (i : ℕ) → (i ≡ 2 * p → ⊥) → _≡_ {A = ℕ} (getD (set (replicate n 0) (2 * p) 1) i 0) 0
+    word-other i f = getD-set-other (replicate n 0) (2 * p) i 1 0 f ∙ zeros n i
+
+    by-test : (b : Bool) → eqb c p ≡ b → elementAt (set (replicate n 0) (2 * p) 1) c ≡ bitOf b
+    by-test true e =
+        ap (elementAt (set (replicate n 0) (2 * p) 1)) (eqb-true c p e)
+        ∙ ap₂ ofWords (getD-set-same (replicate n 0) (2 * p) 1 0 (omega (arith, length-replicate {A = ℕ} n 0))) (word-other (2 * p + 1) (λ q. omega arith)) ∙ words-one
+    by-test false e =
+        let f = eqb-false c p e in ap₂ ofWords (word-other (2 * c) (λ q. f (omega arith))) (word-other (2 * c + 1) (λ q. omega arith)) ∙ words-zero
 
 one-view : (c : ℕ) → cycleOf 1 oneRow 0 c ≡ bitOf (isOneColumn c)
 unfolding cycleOf
-one-view c = ap (elementAt oneRow) (column-is c) ∙ by-test (isOneColumn c) refl
-  where
-    by-test : (b : Bool) → isOneColumn c ≡ b → elementAt oneRow c ≡ bitOf b
-    by-test true e =
-        ap (elementAt oneRow) (eqb-true c 2048 e)
-        ∙ ap₂ ofWords (getD-set-same (replicate 8192 0) 4096 1 0 (omega (arith, length-replicate {A = ℕ} 8192 0))) (word-other 4097 (λ q. omega arith)) ∙ words-one
-    by-test false e =
-        let f = eqb-false c 2048 e in ap₂ ofWords (word-other (2 * c) (λ q. f (omega arith))) (word-other (2 * c + 1) (λ q. omega arith)) ∙ words-zero
+one-view c = ap (elementAt oneRow) (column-is c) ∙ element-alone 8192 2048 c (omega arith)
 
 -- the bin rows have coefficients 0 and 1 only
 plainBins : List Constraint → Bool

@@ -126,13 +126,50 @@ run-same f g [] n p = refl
 run-same f g (k ∷ ks) n p =
     ap₂ (λ b v. cond b v (Failed (k .row .relation) (batchRow (k .row .relation) (k .cycle) (k .row .number)) (n + 1))) (p .0) (run-same f g ks (n + 1) (p .1))
 
+-- what was tested before counts, and changes nothing else
+abbrev later : ℕ → Verdict → Verdict
+later n (Accepted rows) = Accepted (n + rows)
+later n (Failed rel row rows) = Failed rel row (n + rows)
+
+pub run-later : (test : Constraint → Bool) (ks : List Constraint) (n m : ℕ) → run test (n + m) ks ≡ later n (run test m ks)
+unfolding run
+run-later test [] n m = refl
+run-later test (k ∷ ks) n m =
+    ap (λ (i : ℕ). cond (test k) (run test i ks) (Failed (k .row .relation) (batchRow (k .row .relation) (k .cycle) (k .row .number)) i)) (omega arith)
+    ∙ by-test (test k) (run-later test ks n (m + 1))
+  where
+    stop : ℕ → Verdict
+    stop = Failed (k .row .relation) (batchRow (k .row .relation) (k .cycle) (k .row .number))
+
+    by-test : (b : Bool) → run test (n + (m + 1)) ks ≡ later n (run test (m + 1) ks)
+        → cond b (run test (n + (m + 1)) ks) (stop (n + (m + 1))) ≡ later n (cond b (run test (m + 1) ks) (stop (m + 1)))
+    by-test true e = e
+    by-test false e = refl
+
 -- ---- the constraints
 
-count-cycles : (rs : List Row) (n d : ℕ) → length (inCycles d n rs) ≡ n * length rs
+pub count-cycles : (rs : List Row) (n d : ℕ) → length (inCycles d n rs) ≡ n * length rs
 unfolding fromEach
 count-cycles rs zero d = omega arith
 count-cycles rs (suc n) d =
     length-append (map (inCycle d) rs) (inCycles (suc d) n rs) ∙ ap₂ _+_ (length-map rs (inCycle d)) (count-cycles rs n (suc d)) ∙ omega (arith, suc-mul n (length rs))
+
+-- rows in n cycles from s on: where all hold in the cycles before s + d, and cycle s + d fails, that is the verdict, and the cycles before
+-- it count
+pub cycle-fails : (test : Constraint → Bool) (rs : List Row) (n s d m : ℕ) {rel : Relation} {row rows : ℕ} → d < n
+    → ((e : ℕ) → s ≤ e → e < s + d → All (λ r. test (inCycle e r) ≡ true) rs)
+    → run test 0 (map (inCycle (s + d)) rs) ≡ Failed rel row rows → run test m (inCycles s n rs) ≡ Failed rel row (m + d * length rs + rows)
+unfolding fromEach
+cycle-fails test rs zero s d m h held fails = absurd (omega arith)
+cycle-fails test rs (suc n) s zero m {rel} {row} {rows} h held fails =
+    run-stops test (map (inCycle s) rs) (inCycles (suc s) n rs) m
+    (ap (λ (i : ℕ). run test i (map (inCycle s) rs)) (omega arith) ∙ run-later test (map (inCycle s) rs) m 0
+    ∙ ap (later m) (ap (λ (e : ℕ). run test 0 (map (inCycle e) rs)) (omega arith) ∙ fails) ∙ ap (Failed rel row) (omega arith))
+cycle-fails test rs (suc n) s (suc d) m {rel} {row} h held fails =
+    run-past test (map (inCycle s) rs) (inCycles (suc s) n rs) m (all-map (λ k. test k ≡ true) (inCycle s) rs .1 (held s (omega arith) (omega arith)))
+    ∙ cycle-fails test rs n (suc s) d (m + length (map (inCycle s) rs)) (omega arith) (λ e l u. held e (omega arith) (omega arith))
+    (ap (λ (e : ℕ). run test 0 (map (inCycle e) rs)) (omega arith) ∙ fails)
+    ∙ ap (Failed rel row) (omega (arith, length-map rs (inCycle s), suc-mul d (length rs)))
 
 -- a row is of one relation or the other
 count-relations : (rs : List Row) → length (ofRelation Bin rs) + length (ofRelation Fld rs) ≡ length rs
@@ -179,7 +216,7 @@ module _ (P : Constraint → Type 0) where
   abbrev InCycle : ℕ → List Row → Type 0
   InCycle d rs = All (λ r. P (inCycle d r)) rs
 
-  in-cycles : (rs : List Row) (n d : ℕ) → All P (inCycles d n rs) ↔ ((e : ℕ) → d ≤ e → e < d + n → InCycle e rs)
+  pub in-cycles : (rs : List Row) (n d : ℕ) → All P (inCycles d n rs) ↔ ((e : ℕ) → d ≤ e → e < d + n → InCycle e rs)
   in-cycles rs n d =
       let k = all-each P d n (λ e. map (inCycle e) rs) in
       (λ p e l u. all-map P (inCycle e) rs .0 (k .0 p e l u), λ h. k .1 (λ e l u. all-map P (inCycle e) rs .1 (h e l u)))
