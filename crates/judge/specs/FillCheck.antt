@@ -9,13 +9,15 @@ use mathlib.Core.Logic.{_↔_}
 use mathlib.Core.Bool.{true}
 use mathlib.Core.List.{List}
 use Prim.Native.Nat.{ℕ, _+_, _<_}
+use lib.ListN.{length}
 use Rattle.layout.specs.Columns.{ONE-COL}
 use Rattle.layout.specs.declared.Asked.{Asked}
 use Rattle.layout.specs.declared.Asked.the-variants.{Yes, No}
+use Rattle.circuit.specs.Circuit.{circuitWords}
 use Rattle.verdict.specs.declared.CheckAnswer.{CheckAnswer}
 use Rattle.verdict.specs.declared.CheckAnswer.the-variants.{Refused}
 use Rattle.verdict.specs.Row.{cycleOf}
-use Rattle.verdict.specs.Check.{houseChecked}
+use Rattle.verdict.specs.Check.{checked, houseChecked}
 use Rattle.step.specs.Words.{bitsOf}
 use Rattle.step.specs.Step.{Step}
 use Rattle.step.specs.Filling.{SameElsewhere}
@@ -40,10 +42,12 @@ abbrev pub EveryStep : ℕ → List ℕ → Type 0
 EveryStep cpi batch = (d : ℕ) → d < cpi → Step (bitsOf cpi batch d) (cycleOf cpi batch d (ONE-COL + 1))
 
 -- What a call promises of the batch as it came: answer and batch are those of the definition; the answer is accepted exactly when questions 1, 2, 11
--- and 12 were answered with yes and every cycle meets the conditions; it is a failure exactly when they were and some cycle does not; and it
--- is the same whatever stood in the derived columns.
+-- and 12 were answered with yes and every cycle meets the conditions; it is a failure exactly when they were and some cycle does not; where they
+-- were it is that of the check, lent the house listing and any scratch of 3,072 words, on the batch that is left; and it is the same whatever stood
+-- in the derived columns.
 pub record Promised (cpi : ℕ) (before : List ℕ) (answer : CheckAnswer) (batch : List ℕ) : Type 0 where
   pub result : _≡_ {A = FillChecked} (record { answer = answer; batch = batch }) (fillChecked cpi before)
   pub accepted : (accepts answer ≡ true) ↔ ((fillAsked cpi before ≡ Yes) × EveryStep cpi before)
   pub failed : (fails answer ≡ true) ↔ ((fillAsked cpi before ≡ Yes) × (EveryStep cpi before → ⊥))
+  pub as-checked : fillAsked cpi before ≡ Yes → (scratch : List ℕ) → length scratch ≡ 3072 → answer ≡ checked cpi circuitWords batch scratch .answer
   pub whatever : (other : List ℕ) → SameElsewhere cpi other before → fillChecked cpi other .answer ≡ answer

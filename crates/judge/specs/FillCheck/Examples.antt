@@ -1,41 +1,61 @@
--- Filling and checking, of given batches: of every size one that is accepted, and one that fails by what stands in any one cycle; and calls that
--- are refused.
+-- Filling and checking, of given batches: of every size one that is accepted, and one that fails by what stands in any one cycle; rows of the bench
+-- sheet with their verdicts; and calls that are refused.
 -- Assumes nothing.
 use mathlib.Core.Path.{_≡_, refl, sym, ap, subst, _∙_}
 use mathlib.Core.Bool.{Bool, true, false, _&&_}
-use mathlib.Core.List.{[], _∷_}
-use Prim.Native.Nat.{ℕ, _+_, _<_}
+use mathlib.Core.List.{List, [], _∷_}
+use Prim.Native.Nat.{ℕ, _+_, _*_, _<_}
 use native.Mathlib.Omega.{arith}
 use borrow.Author.Tests.{eq-eqb}
 use lib.Dec.{eqb}
+use lib.ListN.{replicate, length-replicate}
 use Rattle.field.specs.Sums.{val}
-use Rattle.layout.specs.Columns.{ONE-COL, SHIFT-OUT, IS-SHIFT}
+use Rattle.layout.specs.Columns.{ONE-COL, SHIFT-OUT, ALU, IS-STORE, IS-SHIFT}
 use Rattle.layout.specs.declared.Asked.the-variants.{Yes}
 use Rattle.layout.specs.Batch.{allowed}
 use Rattle.layout.specs.Questions.{no}
 use Rattle.layout.specs.Sizes.{allowed-range}
-use Rattle.verdict.specs.declared.CheckAnswer.the-variants.{Refused}
+use Rattle.circuit.specs.declared.Relation.the-variants.{Bin, Fld}
+use Rattle.verdict.specs.declared.Verdict.{Verdict}
+use Rattle.verdict.specs.declared.Verdict.the-variants.{Accepted, Failed}
+use Rattle.verdict.specs.declared.CheckAnswer.{CheckAnswer}
+use Rattle.verdict.specs.declared.CheckAnswer.the-variants.{Judged, Refused}
 use Rattle.verdict.specs.Row.{cycleOf}
-use Rattle.verdict.specs.Check.{houseChecked}
+use Rattle.verdict.specs.Check.{Checked, houseChecked}
+use Rattle.verdict.specs.Agree.{house-agrees}
+use Rattle.verdict.specs.Sheet.{oneRow}
 use Rattle.step.specs.Words.{bitsOf}
 use Rattle.step.specs.Step.{Step}
 use Rattle.step.specs.Filling.{filled}
-use Rattle.step.specs.Demand3.{accepts, fails}
-use Rattle.step.specs.Ones.{has}
-use Rattle.step.specs.Fill.{fillAsked, called}
+use Rattle.step.specs.Demand3.{fails}
+use Rattle.step.specs.Ones.{has, withOnes, withOutput}
+use Rattle.step.specs.Sheet.{addressOnes, sumOnes, systemOnes, Gives, sheet}
+use Rattle.step.specs.Fill.{fillAsked, Called, called}
 use Rattle.step.specs.Fill.Answers.{passes, passed-all}
 use Rattle.step.specs.Chosen.{batchOf, withOne, all-bits-of, premises-of}
-use Rattle.judge.specs.Examples.{idle, idle-meets}
-use Rattle.judge.specs.FillCheck.{FillChecked, fillChecked, EveryStep, Promised}
-use Rattle.judge.specs.FillCheck.Laws.{fill-promised}
+use Rattle.judge.specs.Examples.{idle, batch-examples}
+use Rattle.judge.specs.FillCheck.{FillChecked, answerAfter, fillChecked, EveryStep, Promised}
+use Rattle.judge.specs.FillCheck.Laws.{is-judged, fill-promised}
 
 -- cycle k alone shifts, and SHIFT_OUT is 1 where ALU is 0: condition 2 is not met there
 abbrev pub shiftsIn : ℕ → ℕ → ℕ → Bool
 shiftsIn k d c = eqb d k && has (SHIFT-OUT ∷ IS-SHIFT ∷ []) c
 
 pub record OfSize (cpi : ℕ) : Type 0 where
-  pub accepted : accepts (fillChecked cpi (idle cpi) .answer) ≡ true
+  pub accepted : fillChecked cpi (idle cpi) ≡ record { answer = Judged (Accepted (514 * cpi)); batch = filled cpi (idle cpi) }
   pub failed : (k : ℕ) → k < cpi → fails (fillChecked cpi (batchOf cpi (shiftsIn k)) .answer) ≡ true
+
+-- a row that the filler fills as called, and the verdict on it
+abbrev pub Comes : List ℕ → Verdict → Type 0
+Comes row v = fillChecked 1 row ≡ record { answer = Judged v; batch = filled 1 row }
+
+-- P6 to P9 of the bench sheet
+pub record Rows : Type 0 where
+  pub p6 : Comes oneRow (Accepted 514)
+  pub p7-store : Comes (withOnes (IS-STORE ∷ addressOnes) oneRow) (Failed Bin 255 256)
+  pub p8-alu-1 : Comes (withOnes (ALU ∷ sumOnes) oneRow) (Failed Fld 1 485)
+  pub p9-output-5 : Comes (withOutput 5 (withOnes systemOnes oneRow)) (Accepted 514)
+  pub p9-output-6 : Comes (withOutput 6 (withOnes systemOnes oneRow)) (Failed Fld 3 487)
 
 pub record Refusals : Type 0 where
   pub no-size : fillChecked 3 [] ≡ record { answer = Refused (no 1 0); batch = [] }
@@ -69,9 +89,28 @@ module _ (cpi : ℕ) (size : allowed cpi ≡ true) where
   pub of-size : OfSize cpi
   of-size =
       record {
-        accepted = ap accepts (answer-is (λ d c. false)) ∙ call (λ d c. false) .accepted .1 (yes (λ d c. false), idle-meets cpi some);
+        accepted = sym (call (λ d c. false) .result)
+            ∙ ap (λ (a : CheckAnswer). record { answer = a; batch = filled cpi (idle cpi) }) (is-judged cpi (idle cpi) (premises-of cpi some (λ d c. false) .fit) (yes (λ d c. false)) ∙ ap Judged (batch-examples cpi some .accepted size));
         failed = λ k l. ap fails (answer-is (shiftsIn k)) ∙ call (shiftsIn k) .failed .1 (yes (shiftsIn k), not-met k l);
       }
+
+comes : {row : List ℕ} {v : Verdict} → Gives row v → Comes row v
+unfolding fillChecked
+comes {row} {v} g =
+    ap (λ (c : Called). record { answer = answerAfter 1 (c .answer) (c .batch); batch = c .batch }) (g .fill)
+    ∙ ap (λ (a : CheckAnswer). record { answer = a; batch = filled 1 row })
+    (house-agrees 1 (filled 1 row) (replicate 3072 0) (length-replicate {A = ℕ} 3072 0)
+    ∙ ap (λ (c : Checked). c .answer) (g .check (replicate 3072 0) (length-replicate {A = ℕ} 3072 0)))
+
+pub rows : Rows
+rows =
+    record {
+      p6 = comes (sheet .p6);
+      p7-store = comes (sheet .p7-store);
+      p8-alu-1 = comes (sheet .p8-alu-1);
+      p9-output-5 = comes (sheet .p9-output-5);
+      p9-output-6 = comes (sheet .p9-output-6);
+    }
 
 pub refusals : Refusals
 unfolding fillChecked called fillAsked allowed

@@ -77,6 +77,7 @@ module _ (cpi : ℕ) (before : List ℕ) (r : Refusal) (e : fillAsked cpi before
         result = sym (of-asked cpi before (No r) e);
         accepted = (λ f. absurd (false≢true f), λ h. absurd (yes-no (sym e ∙ h .0)));
         failed = (λ f. absurd (false≢true f), λ h. absurd (yes-no (sym e ∙ h .0)));
+        as-checked = λ f. absurd (yes-no (sym e ∙ f));
         whatever = λ other s. ap (λ (c : FillChecked). c .answer) (of-asked cpi other (No r) (same-asked cpi other before s ∙ e));
       }
 
@@ -105,7 +106,7 @@ module _ (cpi : ℕ) (before : List ℕ) (fit : (i : ℕ) → getD before i 0 < 
   unfolding filled
   filled-words = filling-length cpi (fillerBits cpi before) before ∙ p .words
 
-  is-judged : houseChecked cpi (filled cpi before) ≡ Judged (judged cpi circuitWords (filled cpi before))
+  pub is-judged : houseChecked cpi (filled cpi before) ≡ Judged (judged cpi circuitWords (filled cpi before))
   unfolding houseChecked
   is-judged = sym (passed _ _ _ (eq-eqb (length (filled cpi before)) (8192 * cpi) filled-words) ∙ passed _ _ _ (p .size))
 
@@ -126,6 +127,7 @@ module _ (cpi : ℕ) (before : List ℕ) (fit : (i : ℕ) → getD before i 0 < 
           λ f. (e, λ h. true≢false (sym (accepted-is .1 h) ∙ not-true _ (sym fails-is ∙ f))),
           λ h. fails-is ∙ ap not (no-true _ (λ a. h .1 (accepted-is .0 a))),
         );
+        as-checked = λ f. house-agrees cpi (filled cpi before);
         whatever = λ other s.
             ap (λ (c : FillChecked). c .answer) (of-asked cpi other Yes (same-asked cpi other before s ∙ e))
             ∙ ap (houseChecked cpi) (same-filled cpi (allowed-range cpi (p .size) .0) before met other s);
