@@ -75,6 +75,8 @@ module _ (cpi : ℕ) (before : List ℕ) (r : Refusal) (e : fillAsked cpi before
   refusal-promised =
       record {
         result = sym (of-asked cpi before (No r) e);
+        refused = λ t f. (ap (λ (q : Asked). answerAfter cpi q before) (sym e ∙ f), refl);
+        fills = λ f. absurd (yes-no (sym e ∙ f));
         accepted = (λ f. absurd (false≢true f), λ h. absurd (yes-no (sym e ∙ h .0)));
         failed = (λ f. absurd (false≢true f), λ h. absurd (yes-no (sym e ∙ h .0)));
         as-checked = λ f. absurd (yes-no (sym e ∙ f));
@@ -122,6 +124,8 @@ module _ (cpi : ℕ) (before : List ℕ) (fit : (i : ℕ) → getD before i 0 < 
   fill-promised =
       record {
         result = sym (of-asked cpi before Yes e);
+        refused = λ r f. absurd (yes-no (sym f ∙ e));
+        fills = λ f. refl;
         accepted = (λ a. (e, accepted-is .0 a), λ h. accepted-is .1 (h .1));
         failed = (
           λ f. (e, λ h. true≢false (sym (accepted-is .1 h) ∙ not-true _ (sym fails-is ∙ f))),
