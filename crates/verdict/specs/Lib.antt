@@ -11,6 +11,7 @@ pub mod Left
 pub mod Verdicts
 pub mod Depends
 pub mod OverBits
+pub mod ColumnAlone
 pub mod Sheet
 pub mod LaterCycles
 pub mod Agree

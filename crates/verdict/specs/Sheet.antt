@@ -1,38 +1,35 @@
 -- P4 and P5 of the bench sheet, of the check's own result: the all-zero row is accepted with rows 514; with only the one column 1, bin row
 -- 263 fails with rows 264.
 -- Assumes nothing.
-use mathlib.Core.Path.{_≡_, refl, ap, ap₂, _∙_}
-use mathlib.Core.Bool.{Bool, true, false, cond, _&&_}
-use mathlib.Core.List.{List, [], _∷_, _++_, map}
-use Prim.Native.Nat.{ℕ, zero, suc, _+_, _-_, _*_, _≤_, _<_}
+use mathlib.Core.Path.{_≡_, refl, sym, ap, ap₂, _∙_}
+use mathlib.Core.Bool.{Bool, true, false}
+use mathlib.Core.List.{List, [], map}
+use Prim.Native.Nat.{ℕ, zero, suc, _+_, _*_, _<_}
 use native.Mathlib.Omega.{arith}
 use borrow.Author.Tests.{eqb-true, eqb-false}
-use lib.Dec.{eqb, ltb}
+use lib.Dec.{eqb}
 use lib.ListN.{length, getD, set, replicate, length-set, length-replicate}
 use lib.Seq.{getD-set-same, getD-set-other}
-use Rattle.field.specs.declared.Gf128.{Gf128}
-use Rattle.field.specs.Gf.{ofWords, same, product, power, added}
+use Rattle.field.specs.Gf.{ofWords}
 use Rattle.field.specs.Gf as gf
-use Rattle.field.specs.Gf.Laws.{words-zero, words-one, zero-mul, add-zero as add-nothing}
-use Rattle.field.specs.Gf.Tests.{same-self}
+use Rattle.field.specs.Gf.Laws.{words-zero, words-one}
 use Rattle.field.specs.Gf.Bits.{bitOf}
 use Rattle.layout.specs.Batch.{allowed, columnAt}
-use Rattle.layout.specs.Questions.{both, passed}
-use Rattle.layout.specs.Lists.{joined, All, all-append, all-map, all-every}
+use Rattle.layout.specs.Lists.{joined, all-every}
 use Rattle.layout.specs.Mapping.{column-is}
-use Rattle.circuit.specs.declared.Coefficient.{Coefficient}
-use Rattle.circuit.specs.declared.Coefficient.the-variants.{Zero, Power}
 use Rattle.circuit.specs.declared.Relation.the-variants.{Bin, Fld}
-use Rattle.circuit.specs.Rows.{Term, Sides, Row, from, fromEach, numbered}
+use Rattle.circuit.specs.Rows.{Row, from, fromEach, numbered}
 use Rattle.circuit.specs.Circuit.{binFamilies, fldFamilies, circuitRows, circuitWords}
 use Rattle.circuit.specs.Parse.{rowsOf}
 use Rattle.circuit.specs.House.{words-read, in-order, counts}
 use Rattle.verdict.specs.declared.Verdict.the-variants.{Accepted, Failed}
 use Rattle.verdict.specs.declared.CheckAnswer.the-variants.{Judged}
-use Rattle.verdict.specs.Row.{elementAt, cycleOf, times, sumOf, balanced, holds}
-use Rattle.verdict.specs.Check.{Constraint, inCycle, inCycles, ofRelation, constraints, met, run, judged, checked}
-use Rattle.verdict.specs.Verdicts.{run-same, run-stops, accepts, answered-yes}
-use Rattle.verdict.specs.OverBits.{plain, plainRow, sumBits, holdsBits, holds-bits}
+use Rattle.verdict.specs.Row.{elementAt, cycleOf}
+use Rattle.verdict.specs.Check.{inCycle, inCycles, ofRelation, constraints, met, run, judged, checked}
+use Rattle.verdict.specs.Verdicts.{run-stops, accepts, answered-yes}
+use Rattle.verdict.specs.Depends.{named}
+use Rattle.verdict.specs.OverBits.{plain, sumBits}
+use Rattle.verdict.specs.ColumnAlone.{holds-zero, testAlone, allTold, cycle-says}
 
 -- ---- the questions are passed, whatever stands in batch and scratch
 
@@ -41,7 +38,7 @@ pub checked-is : (batch scratch : List ℕ) → length batch ≡ 8192 → length
 unfolding allowed
 checked-is batch scratch b s = answered-yes 1 circuitWords batch scratch refl in-order s b
 
--- ---- P4: over zeros every sum is zero
+-- ---- P4: over zeros every row holds
 
 -- a list of zeros, and past its end
 pub zeros : (n i : ℕ) → _≡_ {A = ℕ} (getD (replicate n 0) i 0) 0
@@ -52,20 +49,6 @@ zeros (suc n) (suc i) = zeros n i
 nothing : (n cpi d c : ℕ) → cycleOf cpi (replicate n 0) d c ≡ gf.zero
 unfolding cycleOf
 nothing n cpi d c = ap₂ ofWords (zeros n (2 * columnAt cpi c d)) (zeros n (2 * columnAt cpi c d + 1)) ∙ words-zero
-
-module _ (z : ℕ → Gf128) (none : (c : ℕ) → z c ≡ gf.zero) where
-  term-zero : (k : Coefficient) (c : ℕ) → times k (z c) ≡ gf.zero
-  term-zero Zero c = refl
-  term-zero (Power k) c = ap (λ x. product x (power k)) (none c) ∙ zero-mul (power k)
-
-  pub sum-zero : (ts : List Term) → sumOf z ts ≡ gf.zero
-  unfolding sumOf
-  sum-zero [] = refl
-  sum-zero (t ∷ ts) = ap₂ added (term-zero (t .coefficient) (t .column)) (sum-zero ts) ∙ add-nothing gf.zero
-
-  pub holds-zero : (s : Sides) → holds z s ≡ true
-  unfolding balanced
-  holds-zero s = ap₂ same (ap₂ product (sum-zero (s .a)) (sum-zero (s .b)) ∙ zero-mul gf.zero) (sum-zero (s .c)) ∙ same-self gf.zero
 
 -- whatever the batch size
 pub zeros-accepted : (cpi n : ℕ) → judged cpi circuitWords (replicate n 0) ≡ Accepted (cpi * 514)
@@ -79,78 +62,48 @@ p4 scratch s =
     checked-is (replicate 8192 0) scratch (length-replicate {A = ℕ} 8192 0) s
     ∙ ap (λ v. record { answer = Judged v; scratch = replicate 3072 0 }) (zeros-accepted 1 8192)
 
--- ---- P5: over bits, of which the one column alone is 1
+-- ---- P5: the one column alone is 1
 
 -- the words of that row: element 2048 has its low word at 4096
 abbrev pub oneRow : List ℕ
 oneRow = set (replicate 8192 0) 4096 1
 
-abbrev isOneColumn : ℕ → Bool
-isOneColumn c = eqb c 2048
-
 -- zeros, and 1 in element p: as bits
-pub element-alone : (n p c : ℕ) → 2 * p < n → elementAt (set (replicate n 0) (2 * p) 1) c ≡ bitOf (eqb c p)
-element-alone n p c h = by-test (eqb c p) refl
+pub element-alone : (n p c : ℕ) → 2 * p < n → elementAt (set (replicate n 0) (2 * p) 1) c ≡ bitOf (eqb p c)
+element-alone n p c h = by-test (eqb p c) refl
   where
     word-other : (i : ℕ) → (i ≡ 2 * p → ⊥) → _≡_ {A = ℕ} (getD (set (replicate n 0) (2 * p) 1) i 0) 0
     word-other i f = getD-set-other (replicate n 0) (2 * p) i 1 0 f ∙ zeros n i
 
-    by-test : (b : Bool) → eqb c p ≡ b → elementAt (set (replicate n 0) (2 * p) 1) c ≡ bitOf b
+    by-test : (b : Bool) → eqb p c ≡ b → elementAt (set (replicate n 0) (2 * p) 1) c ≡ bitOf b
     by-test true e =
-        ap (elementAt (set (replicate n 0) (2 * p) 1)) (eqb-true c p e)
+        ap (elementAt (set (replicate n 0) (2 * p) 1)) (sym (eqb-true p c e))
         ∙ ap₂ ofWords (getD-set-same (replicate n 0) (2 * p) 1 0 (omega (arith, length-replicate {A = ℕ} n 0))) (word-other (2 * p + 1) (λ q. omega arith)) ∙ words-one
     by-test false e =
-        let f = eqb-false c p e in ap₂ ofWords (word-other (2 * c) (λ q. f (omega arith))) (word-other (2 * c + 1) (λ q. omega arith)) ∙ words-zero
+        let f = eqb-false p c e in ap₂ ofWords (word-other (2 * c) (λ q. f (omega arith))) (word-other (2 * c + 1) (λ q. omega arith)) ∙ words-zero
 
-one-view : (c : ℕ) → cycleOf 1 oneRow 0 c ≡ bitOf (isOneColumn c)
+one-view : (c : ℕ) → cycleOf 1 oneRow 0 c ≡ bitOf (eqb 2048 c)
 unfolding cycleOf
 one-view c = ap (elementAt oneRow) (column-is c) ∙ element-alone 8192 2048 c (omega arith)
 
--- the bin rows have coefficients 0 and 1 only
-plainBins : List Constraint → Bool
-plainBins [] = true
-plainBins (k ∷ ks) = plainRow (k .row .sides) && plainBins ks
+-- the two computed tests of the bin rows
+bins : List Row
+bins = ofRelation Bin circuitRows
 
--- cycle 0 is the only one
-abbrev atZero : Constraint → Type 0
-atZero k = k .cycle ≡ 0
+bins-told : allTold 2048 bins ≡ true
+unfolding allTold plain named bins ofRelation circuitRows binFamilies fldFamilies from fromEach joined numbered
+bins-told = refl
 
-abbrev overBits : Constraint → Bool
-overBits k = holdsBits isOneColumn (k .row .sides)
-
-same-tests : (ks : List Constraint) → All atZero ks → plainBins ks ≡ true → All (λ k. met (cycleOf 1 oneRow) k ≡ overBits k) ks
-unfolding plainBins
-same-tests [] z p = tt
-same-tests (k ∷ ks) z p =
-    let b = both (plainRow (k .row .sides)) (plainBins ks) p in (
-      ap (λ (d : ℕ). holds (cycleOf 1 oneRow d) (k .row .sides)) (z .0)
-          ∙ holds-bits (cycleOf 1 oneRow 0) isOneColumn one-view (k .row .sides) (b .0),
-      same-tests ks (z .1) (b .1),
-    )
-
-bins : List Constraint
-bins = inCycles 0 1 (ofRelation Bin circuitRows)
-
-all-zero : (rs : List Row) → All atZero (inCycles 0 1 rs)
-unfolding fromEach
-all-zero rs = all-append atZero (map (inCycle 0) rs) [] (all-map atZero (inCycle 0) rs .1 (all-every _ (λ r. refl) rs)) tt
-
--- the two computed tests
-bins-plain : plainBins bins ≡ true
-unfolding plainBins plain bins ofRelation circuitRows binFamilies fldFamilies from fromEach joined numbered
-bins-plain = refl
-
-bins-run : run overBits 0 bins ≡ Failed Bin 263 264
-unfolding run sumBits bins ofRelation circuitRows binFamilies fldFamilies from fromEach joined numbered
+bins-run : run (λ k. testAlone 2048 (k .row)) 0 (map (inCycle 0) bins) ≡ Failed Bin 263 264
+unfolding run sumBits named bins ofRelation circuitRows binFamilies fldFamilies from fromEach joined numbered
 bins-run = refl
 
 pub one-judged : judged 1 circuitWords oneRow ≡ Failed Bin 263 264
-unfolding judged constraints bins
+unfolding judged constraints fromEach bins
 one-judged =
     ap (λ (rs : List Row). run (met (cycleOf 1 oneRow)) 0 (constraints 1 rs)) words-read
-    ∙ run-stops (met (cycleOf 1 oneRow)) (inCycles 0 1 (ofRelation Bin circuitRows)) (inCycles 0 1 (ofRelation Fld circuitRows)) 0
-    (run-same (met (cycleOf 1 oneRow)) overBits (inCycles 0 1 (ofRelation Bin circuitRows)) 0
-    (same-tests (inCycles 0 1 (ofRelation Bin circuitRows)) (all-zero (ofRelation Bin circuitRows)) bins-plain) ∙ bins-run)
+    ∙ run-stops (met (cycleOf 1 oneRow)) (inCycles 0 1 bins) (inCycles 0 1 (ofRelation Fld circuitRows)) 0
+    (run-stops (met (cycleOf 1 oneRow)) (map (inCycle 0) bins) [] 0 (cycle-says (cycleOf 1 oneRow) 2048 0 one-view bins bins-told bins-run))
 
 pub p5 : (scratch : List ℕ) → length scratch ≡ 3072
     → checked 1 circuitWords oneRow scratch ≡ record { answer = Judged (Failed Bin 263 264); scratch = replicate 3072 0 }
