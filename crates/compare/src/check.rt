@@ -6,7 +6,7 @@ ghost use lib.ListN.{length, drop};
 ghost use Rattle.verdict.specs.Check.{checked, houseChecked};
 ghost use Rattle.verdict.specs.Apply.{applied};
 ghost use Rattle.verdict.specs.Bits.{bitTested};
-ghost use Rattle.compare.specs.Numbers.{refusedAt, failedIn, verdictNumber, checkNumber, reply, checkReply, chosenRelation, sumWords, sumsReply, applyReply, bitNumber};
+ghost use Rattle.compare.specs.Numbers.{keptPlace, refusedAt, failedIn, verdictNumber, checkNumber, reply, checkReply, chosenRelation, sumWords, sumsReply, applyReply, bitNumber};
 use circuit::Relation;
 use layout::Refusal;
 use verdict::ApplyAnswer;
@@ -15,10 +15,20 @@ use verdict::Sums;
 use verdict::Verdict;
 use verdict::bits::BitAnswer;
 
+fn kept_place(place: usize) -> u64
+    ensures { λ n. ⌜ n ≡ keptPlace place ⌝ }
+{
+    if place < 0xffffffff {
+        place as u64
+    } else {
+        0xffffffff
+    }
+}
+
 pub fn refused_at(r: Refusal) -> u64
     ensures { λ n. ⌜ n ≡ refusedAt r ⌝ }
 {
-    0x8000000000000000 + r.number as u64 * 0x100000000 + r.place as u64 % 0x100000000
+    0x8000000000000000 + r.number as u64 * 0x100000000 + kept_place(r.place)
 }
 
 fn failed_in(relation: Relation) -> u64
