@@ -1,7 +1,7 @@
--- `build_circuit_batched`: what a word of the listing stands for in cycle d of a batch.
+-- `build_circuit_batched`: what a word of the listing stands for in cycle d of a batch; `unmap_row`: the way back from a batch row.
 -- Assumes nothing.
 use mathlib.Core.Bool.{cond}
-use Prim.Native.Nat.{ℕ, _+_, _*_}
+use Prim.Native.Nat.{ℕ, _+_, _*_, _/_, _%_}
 use lib.Dec.{ltb}
 use Rattle.layout.specs.declared.ColumnAnswer.{ColumnAnswer}
 use Rattle.layout.specs.declared.ColumnAnswer.the-variants.{At, Refused as NoColumn}
@@ -13,6 +13,8 @@ use Rattle.circuit.specs.declared.Word.{Word}
 use Rattle.circuit.specs.declared.Word.the-variants.{Mark, Term as OneTerm}
 use Rattle.circuit.specs.declared.batch.BatchWord.{BatchWord}
 use Rattle.circuit.specs.declared.batch.BatchWord.the-variants.{Row, Term, Refused}
+use Rattle.circuit.specs.declared.batch.CycleRowAnswer.{CycleRowAnswer}
+use Rattle.circuit.specs.declared.batch.CycleRowAnswer.the-variants.{At as In, Refused as NoCycleRow}
 use Rattle.circuit.specs.Words.{cleanOf, wordOf}
 use Rattle.circuit.specs.Found.{rowsACycle}
 
@@ -44,3 +46,11 @@ batched cpi d w =
     (cond (cleanOf w) (inCycle cpi d (wordOf w))
     (Refused (no 7 0)))
     (Refused (no 1 0))
+
+-- the cycle and the row of a batch row that the batch has: questions 1, 14
+unfoldable pub unmappedRow : ℕ → Relation → ℕ → CycleRowAnswer
+unmappedRow cpi rel b =
+    cond (allowed cpi)
+    (cond (ltb b (rowsACycle rel * cpi)) (In (b / rowsACycle rel) (b % rowsACycle rel))
+    (NoCycleRow (no 14 0)))
+    (NoCycleRow (no 1 0))

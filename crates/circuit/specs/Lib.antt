@@ -8,5 +8,6 @@ pub mod Found
 pub mod Search
 pub mod Reader
 pub mod Batched
+pub mod BatchRows
 pub mod House
 pub mod Compared

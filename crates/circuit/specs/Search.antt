@@ -23,6 +23,10 @@ pub rows-at-most : (rel : Relation) → rowsACycle rel ≤ 512
 rows-at-most Bin = omega arith
 rows-at-most Fld = omega arith
 
+pub rows-some : (rel : Relation) → 0 < rowsACycle rel
+rows-some Bin = omega arith
+rows-some Fld = omega arith
+
 -- a turn of the search at index i: it stops, goes on, or has no words left
 module _ (p : ℕ → Bool) (ws : List ℕ) (i : ℕ) where
   pub stops : i < length ws → p (getD ws i 0) ≡ true → i + until p (drop i ws) ≡ i

@@ -1,4 +1,5 @@
 // `build_circuit_batched`, word by word: a batch has no listing of its own, since each cycle's rows are those of the one listing.
+// And the way back from a batch row, as a verdict names it, to the cycle and its row.
 use crate::Coefficient;
 use crate::Relation;
 use crate::Word;
@@ -9,7 +10,7 @@ use layout::Refusal;
 ghost use mathlib.Core.Path.{_≡_};
 ghost use mathlib.Core.Bool.{true};
 ghost use Rattle.layout.specs.Batch.{allowed, mapped};
-ghost use Rattle.circuit.specs.Batched.{rowIn, termOn, batched};
+ghost use Rattle.circuit.specs.Batched.{rowIn, termOn, batched, unmappedRow};
 
 // What a word of the listing stands for in a cycle of a batch: the mark of a batch row, or a term on a batch column.
 pub enum BatchWord {
@@ -22,6 +23,12 @@ pub enum BatchWord {
         coefficient: Coefficient,
         column: usize,
     },
+    Refused(Refusal),
+}
+
+// A row of a cycle.
+pub enum CycleRowAnswer {
+    At { cycle: usize, row: usize },
     Refused(Refusal),
 }
 
@@ -94,5 +101,28 @@ pub fn build_circuit_batched(cpi: usize, cycle: usize, w: u32) -> BatchWord
             coefficient,
             column,
         } => term_in_cycle(side, coefficient, column, cpi, cycle),
+    }
+}
+
+// The way back: which row of which cycle a batch row is. Total: questions 1 and 14 (a batch row that the batch does not have).
+pub fn unmap_row(cpi: usize, relation: Relation, batch_row: usize) -> CycleRowAnswer
+    ensures { λ r. ⌜ r ≡ unmappedRow cpi relation «batch_row» ⌝ }
+{
+    if !layout::is_allowed(cpi) {
+        return CycleRowAnswer::Refused(Refusal {
+            number: 1,
+            place: 0,
+        });
+    }
+    let rows = rows_a_cycle(relation);
+    if rows * cpi <= batch_row {
+        return CycleRowAnswer::Refused(Refusal {
+            number: 14,
+            place: 0,
+        });
+    }
+    CycleRowAnswer::At {
+        cycle: batch_row / rows,
+        row: batch_row % rows,
     }
 }

@@ -3,6 +3,7 @@
 --     Words           the same of packed words: `judgedWords`, and of cycle after cycle `allJudged`
 --     Short           the short way to an accepted batch
 --     Judges, Named   what must stand in a batch: `OverBits`; `NamedBits`, over the columns that rows name
+--     FillCheck       filling and checking in one call, and what it promises
 -- and the theorems are `judged-exactly` of Exactly, `judges` of Judges, `judges-named` and `named-packed` of Named, `judges-filled` of Filled,
 -- `judged-same`, `judged-agree` and `packed-batch` of Words.Same, and `short-accepts` and `short-exactly` of Short.Laws. Examples has what meets the definitions and what does not.
 pub mod Judged
@@ -14,3 +15,4 @@ pub mod Filled
 pub mod Named
 pub mod Examples
 pub mod Short
+pub mod FillCheck

@@ -6,11 +6,13 @@ use crate::cycle::judge_cycle;
 use crate::short::short_row;
 use crate::short::short_yes;
 use field::Gf128;
+use layout::Asked;
 use verdict::CheckAnswer;
 use verdict::Verdict;
 ghost use mathlib.Core.Path.{_≡_};
 ghost use lib.ListN.{getD};
 ghost use Rattle.verdict.specs.Check.{Checked, checked, houseChecked};
+ghost use Rattle.judge.specs.FillCheck.{Promised};
 ghost use Rattle.judge.specs.Words.{judgedWords};
 
 // One cycle: word k has columns 64 k to 64 k + 63, and `output` is the public element behind the one column.
@@ -39,4 +41,16 @@ pub fn check_row(cpi: usize, listing: &[u32], batch: &[u64], scratch: &mut [u64]
         return CheckAnswer::Judged(Verdict::Accepted { rows: 514 * cpi });
     }
     verdict::check_row(cpi, listing, batch, scratch)
+}
+
+// Fills a batch and checks it against the house listing: the filler's questions, 1, 2, 11 and 12; a no leaves the batch as it came. Demand 3 as a
+// promise of code: accepted exactly when every cycle meets the ten step conditions, whatever stood in the derived columns.
+pub fn fill_and_check(cpi: usize, batch: &mut [u64]) -> CheckAnswer
+    ensures { λ r. ⌜ Promised cpi (now (batch .entry)) r (now (batch .exit)) ⌝ }
+{
+    let asked = step::fill::fill(cpi, batch);
+    match asked {
+        Asked::No(r) => CheckAnswer::Refused(r),
+        Asked::Yes => check_house(cpi, batch),
+    }
 }

@@ -10,11 +10,13 @@
 --     Fill            the filler as it is called: `called`
 --     Met             which condition is the first that a cycle does not meet: `firstUnmet`, and as it is called `stepAnswer`
 -- and the theorems are `demand3` of Proved, `filler-alone` of Alone, `all-fillings` of Count, `demand3-of-fill` of Fill.Answers, `meets-all` and
--- `answer-meets` of Met.First and, of the bench sheet's P6 to P9, `sheet` of Sheet.
+-- `answer-meets` of Met.First and, of the bench sheet's P6 to P9, `sheet` of Sheet. That demand 3's own words say no less than they should and
+-- ask no more: `answers` of Answers (accepted, fails), `premises-of` and `premises-whatever` of Chosen (the premises), `compares-exactly`,
+-- `every-branch` and `each-funct3` of Branches (the taken clause).
 -- The way there, from the ground up:
 -- words of any width (Cases, Numbers, Adder, Compare, Chain); Theorem U (Solvable, Unique, Determining); Theorem C (Determined,
 -- Conditions, Taken, Given); from the field to bits (BinRows, FieldSums, FieldRows, Cycle); the batch (Placed, Count, Batch); the check (Listings,
--- Proved); the bench sheet's rows (Ones, CycleOrder, FilledRow).
+-- Proved); the bench sheet's rows (Ones, CycleOrder, FilledRow); branches of any two words (FieldBits, BranchRow).
 pub mod Words
 pub mod Cases
 pub mod Numbers
@@ -51,3 +53,8 @@ pub mod Ones
 pub mod CycleOrder
 pub mod FilledRow
 pub mod Sheet
+pub mod Answers
+pub mod Chosen
+pub mod FieldBits
+pub mod BranchRow
+pub mod Branches

@@ -20,9 +20,10 @@ use Rattle.step.specs.Fill.Fields.{flags, pack, gated-lt}
 use Rattle.step.specs.Fill.Lanes.{next, hot-lt, pair-lt}
 use Rattle.step.specs.Fill.Derive.{carryWord, runWord, laneWord, compareWord, branchWord}
 use Rattle.step.specs.Fill.Words.{flagsOf, topsOf, derivedWords}
+use Rattle.step.specs.FieldBits.{columnBit}
 use Rattle.witness.specs.declared.records.CycleRecord.{CycleRecord}
 use Rattle.witness.specs.declared.records.RomRow.{RomRow}
-use Rattle.witness.specs.Packed.{columnBit, packed}
+use Rattle.witness.specs.Packed.{packed}
 use Rattle.witness.specs.Groups.{Carries, CarriesEach, inGroups, alone-carried, none-carried, packed-carried, table-bit}
 use Rattle.witness.specs.Table.{subtracts, secondOperand, aluOf, carryOf, lane, op, f3, flagGroup, busGroup, laneGroup, branchGroup, table}
 use Rattle.witness.specs.Row.{rowBit, rowWord, madeRow}

@@ -10,7 +10,8 @@ use Rattle.layout.specs.Questions.{both}
 use Rattle.layout.specs.Lists.{joined}
 use Rattle.step.specs.Fill.Bits.{bitAt, no-bit}
 use Rattle.step.specs.Fill.Blocks.{Block, block, inBlock, between, goes-on, ends}
-use Rattle.witness.specs.Packed.{columnBit, packed, inside, behind, nothing-before, packed-bit}
+use Rattle.step.specs.FieldBits.{columnBit, inside, behind, nothing-before}
+use Rattle.witness.specs.Packed.{packed, packed-bit}
 
 -- a word has a group's bits; and each word of a list those of its group
 abbrev pub Carries : ℕ → List Block → ℕ → Type 0

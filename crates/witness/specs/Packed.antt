@@ -1,21 +1,16 @@
--- Fields of columns, and the words of 64 columns that hold their bits.
+-- Fields of columns as a number: the words of 64 columns that hold their bits.
 -- Assumes nothing.
-use mathlib.Core.Path.{_≡_, refl, sym, ap, _∙_}
-use mathlib.Core.Bool.{Bool, true, false, cond}
+use mathlib.Core.Path.{_≡_, sym, ap, _∙_}
+use mathlib.Core.Bool.{true}
 use mathlib.Core.List.{List, [], _∷_}
-use Prim.Native.Nat.{ℕ, _+_, _*_, _-_, _%_, _^_, _≤_, _<_}
+use Prim.Native.Nat.{ℕ, _+_, _*_, _-_, _%_, _^_, _<_}
 use native.Mathlib.Nat.{mod-lt}
 use native.Mathlib.Decide.{decLt}
 use native.Mathlib.Omega.{arith}
-use borrow.Author.Tests.{le-leb, lt-ltb, le-ltb, lt-leb}
 use lib.Pow.{pow-pos}
 use Rattle.step.specs.Fill.Bits.{bitAt, bit-cut, bit-low, bit-high, no-bit, bit-moved, bit-below}
-use Rattle.step.specs.Fill.Blocks.{Block, inBlock, between, starts, goes-on}
-
--- a column's bit: that of the first field that has it, else 0
-unfoldable pub columnBit : List Block → ℕ → Bool
-columnBit [] c = false
-columnBit (k ∷ ks) c = cond (inBlock k c) (bitAt (k .word) (c - k .column)) (columnBit ks c)
+use Rattle.step.specs.Fill.Blocks.{Block, between, starts, goes-on}
+use Rattle.step.specs.FieldBits.{columnBit, inside, before, behind, nothing-before}
 
 -- the fields as a number, column o being its bit 0
 unfoldable pub packed : ℕ → List Block → ℕ
@@ -23,27 +18,6 @@ packed o [] = 0
 packed o (k ∷ ks) = 2 ^ (k .column - o) * (k .word % 2 ^ k .width + 2 ^ k .width * packed (k .column + k .width) ks)
 
 -- ---- the bits of the number are the columns' bits
-
-module _ (k : Block) (ks : List Block) (c : ℕ) where
-  pub inside : k .column ≤ c → c < k .column + k .width → columnBit (k ∷ ks) c ≡ bitAt (k .word) (c - k .column)
-  unfolding columnBit
-  inside l m = rw (le-leb (k .column) c l, lt-ltb c (k .column + k .width) m)
-
-  before : c < k .column → columnBit (k ∷ ks) c ≡ columnBit ks c
-  unfolding columnBit
-  before l = rw (lt-leb (k .column) c l)
-
-  pub behind : k .column + k .width ≤ c → columnBit (k ∷ ks) c ≡ columnBit ks c
-  unfolding columnBit
-  behind l = rw (le-leb (k .column) c (omega arith), le-ltb c (k .column + k .width) l)
-
--- no field begins before the first
-pub nothing-before : (ks : List Block) (o limit c : ℕ) → between o limit ks ≡ true → c < o → columnBit ks c ≡ false
-unfolding columnBit
-nothing-before [] o limit c t l = refl
-nothing-before (k ∷ ks) o limit c t l =
-    let s = starts o limit k ks t in
-    before k ks c (omega arith) ∙ nothing-before ks (k .column + k .width) limit c (goes-on o limit k ks t) (omega arith)
 
 -- one field more, where the rest is known
 module _ (o limit : ℕ) (k : Block) (ks : List Block) (t : between o limit (k ∷ ks) ≡ true)

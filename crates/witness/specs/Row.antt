@@ -14,10 +14,10 @@ use Rattle.layout.specs.Questions.{no, answered}
 use Rattle.layout.specs.Lists.{joined}
 use Rattle.circuit.specs.Rows.{from}
 use Rattle.step.specs.Fill.{Called, after}
+use Rattle.step.specs.FieldBits.{columnBit}
 use Rattle.witness.specs.declared.records.CycleRecord.{CycleRecord}
 use Rattle.witness.specs.declared.records.RomRow.{RomRow}
 use Rattle.witness.specs.Upper.{publicFits, batchWord, fits-most}
-use Rattle.witness.specs.Packed.{columnBit}
 use Rattle.witness.specs.Table.{table}
 
 -- questions 2 and 3, of the numbers of words: the public values', the row's

@@ -3,24 +3,24 @@
 use mathlib.Core.Path.{_≡_, sym, ap, _∙_}
 use borrow.Author.Needs.{needs}
 use borrow.Author.Tests.{lt-ltb, le-ltb}
-use Prim.Native.Nat.{ℕ, _+_, _*_, _≤_, _<_}
+use Prim.Native.Nat.{ℕ, _+_, _*_, _<_}
 use mathlib.Core.Bool.{true}
-use native.Mathlib.Nat.{mul-le-mul}
 use native.Mathlib.Omega.{arith}
 use Rattle.layout.specs.Batch.{allowed}
 use Rattle.layout.specs.Questions.{passed, refused}
-use Rattle.layout.specs.Sizes.{allowed-range}
 use Rattle.circuit.specs.declared.Relation.{Relation}
 use Rattle.circuit.specs.declared.batch.BatchWord.the-variants.{Row}
 use Rattle.circuit.specs.Found.{rowsACycle}
-use Rattle.circuit.specs.Search.{rows-at-most}
 use Rattle.circuit.specs.Batched.{rowIn}
+use Rattle.circuit.specs.BatchRows.{batch-row-below, batch-rows-at-most}
 use Rattle.circuit.proofs.batch.row_in_cycle.Statement.{statement}
 use Rattle.circuit.proofs.batch.row_in_cycle.Tie as tie
 
-bound : (rel : Relation) (n d : ℕ) {cpi : ℕ} → n ≡ rowsACycle rel → allowed cpi ≡ true → d < cpi → (n ≤ 512) × (n * d ≤ 512 * 256)
-bound rel n d {cpi} e ok h =
-    let l : n ≤ 512 = omega (arith, rows-at-most rel) in let r = allowed-range cpi ok in (l, mul-le-mul {m₂ = 256} l (omega arith))
+-- with what stands before it, a batch row is below the batch's rows
+bound : (rel : Relation) (n d r : ℕ) {cpi : ℕ} → n ≡ rowsACycle rel → allowed cpi ≡ true → d < cpi → r < n → n * d + r < 131072
+bound rel n d r {cpi} e ok hd hr =
+    omega
+    (arith, ap (λ (k : ℕ). k * d) e, batch-row-below cpi ok rel d r hd (omega arith), batch-rows-at-most cpi ok rel)
 
 rows-a-cycle-requires : tie.Need-rows-a-cycle-requires
 rows-a-cycle-requires c κs = search needs
@@ -38,10 +38,10 @@ returns-2 c =
     refused _ _ _ (le-ltb _ _ (c .if2 .taken)) ∙ passed _ _ _ (lt-ltb (a .row) (rowsACycle (a .relation)) (omega arith))
 
 mul-t9 : tie.Need-mul-t9
-mul-t9 c = let b = bound (c .before .before .before .args .relation) _ _ (c .before .before .rows-a-cycle .ensures) (c .before .before .before .pre) (c .if2 .left) in omega arith
+mul-t9 c = let b = bound (c .before .before .before .args .relation) _ _ _ (c .before .before .rows-a-cycle .ensures) (c .before .before .before .pre) (c .if2 .left) (c .before .if1 .left) in omega arith
 
 add-t10 : tie.Need-add-t10
-add-t10 c = let b = bound (c .before .before .before .args .relation) _ _ (c .before .before .rows-a-cycle .ensures) (c .before .before .before .pre) (c .if2 .left) in omega arith
+add-t10 c = let b = bound (c .before .before .before .args .relation) _ _ _ (c .before .before .rows-a-cycle .ensures) (c .before .before .before .pre) (c .if2 .left) (c .before .if1 .left) in omega arith
 
 returns-3 : tie.Need-returns-3
 unfolding rowIn

@@ -1,0 +1,47 @@
+-- Filling and checking in one call: the filler's questions, then the check of what it wrote. Demand 3 makes its acceptance a statement about the
+-- batch as it came. The laws are in Laws.
+-- Assumes nothing.
+pub mod Laws
+use mathlib.Core.Path.{_≡_}
+use mathlib.Core.Logic.{_↔_}
+use mathlib.Core.Bool.{true}
+use mathlib.Core.List.{List}
+use Prim.Native.Nat.{ℕ, _+_, _<_}
+use Rattle.layout.specs.Columns.{ONE-COL}
+use Rattle.layout.specs.declared.Asked.{Asked}
+use Rattle.layout.specs.declared.Asked.the-variants.{Yes, No}
+use Rattle.verdict.specs.declared.CheckAnswer.{CheckAnswer}
+use Rattle.verdict.specs.declared.CheckAnswer.the-variants.{Refused}
+use Rattle.verdict.specs.Row.{cycleOf}
+use Rattle.verdict.specs.Check.{houseChecked}
+use Rattle.step.specs.Words.{bitsOf}
+use Rattle.step.specs.Step.{Step}
+use Rattle.step.specs.Filling.{SameElsewhere}
+use Rattle.step.specs.Fill.{fillAsked, called}
+use Rattle.step.specs.Demand3.{accepts, fails}
+
+-- the answer, and the batch afterwards
+pub record FillChecked : Type 0 where
+  pub answer : CheckAnswer
+  pub batch : List ℕ
+
+-- what the filler refuses is refused with its number and place; what it fills is checked
+abbrev pub answerAfter : ℕ → Asked → List ℕ → CheckAnswer
+answerAfter cpi Yes batch = houseChecked cpi batch
+answerAfter cpi (No r) batch = Refused r
+
+unfoldable pub fillChecked : ℕ → List ℕ → FillChecked
+fillChecked cpi batch = let c = called cpi batch in record { answer = answerAfter cpi (c .answer) (c .batch); batch = c .batch }
+
+-- every cycle meets the ten step conditions
+abbrev pub EveryStep : ℕ → List ℕ → Type 0
+EveryStep cpi batch = (d : ℕ) → d < cpi → Step (bitsOf cpi batch d) (cycleOf cpi batch d (ONE-COL + 1))
+
+-- What a call promises of the batch as it came: answer and batch are those of the definition; the answer is accepted exactly when questions 1, 2, 11
+-- and 12 were answered with yes and every cycle meets the conditions; it is a failure exactly when they were and some cycle does not; and it
+-- is the same whatever stood in the derived columns.
+pub record Promised (cpi : ℕ) (before : List ℕ) (answer : CheckAnswer) (batch : List ℕ) : Type 0 where
+  pub result : _≡_ {A = FillChecked} (record { answer = answer; batch = batch }) (fillChecked cpi before)
+  pub accepted : (accepts answer ≡ true) ↔ ((fillAsked cpi before ≡ Yes) × EveryStep cpi before)
+  pub failed : (fails answer ≡ true) ↔ ((fillAsked cpi before ≡ Yes) × (EveryStep cpi before → ⊥))
+  pub whatever : (other : List ℕ) → SameElsewhere cpi other before → fillChecked cpi other .answer ≡ answer
