@@ -25,6 +25,8 @@ use Rattle.circuit.specs.declared.Word.{Word}
 use Rattle.circuit.specs.declared.Word.the-variants.{Mark, Term as OneTerm}
 use Rattle.circuit.specs.declared.batch.BatchWord.{BatchWord}
 use Rattle.circuit.specs.declared.batch.BatchWord.the-variants.{Row, Term, Refused}
+use Rattle.circuit.specs.declared.batch.CycleRowAnswer.{CycleRowAnswer}
+use Rattle.circuit.specs.declared.batch.CycleRowAnswer.the-variants.{At as RowOf, Refused as NoCycleRow}
 use Rattle.circuit.specs.declared.search.Found.{Found}
 use Rattle.circuit.specs.declared.search.Found.the-variants.{At as Stands, Refused as NotFound}
 use Rattle.circuit.specs.Valid.{validated}
@@ -45,6 +47,7 @@ use Rattle.layout.specs.declared.Asked.the-variants.{Yes, No}
 use Rattle.step.specs.declared.conditions.StepAnswer.{StepAnswer}
 use Rattle.step.specs.declared.conditions.StepAnswer.the-variants.{Meets, Unmet, Refused as NotAsked}
 use Rattle.step.specs.Fill.{Called}
+use Rattle.judge.specs.FillCheck.{FillChecked}
 use Rattle.packed.specs.declared.Packing.{Packing}
 use Rattle.packed.specs.declared.Packing.the-variants.{Bits, NotBits, Refused as NotPacked}
 use Rattle.packed.specs.Packed.{PackCalled}
@@ -81,6 +84,11 @@ columnNumber (NoColumn r) = refusedAt r
 abbrev pub cycleColumnNumber : ℕ → CycleColumnAnswer → ℕ
 cycleColumnNumber part (In c d) = cond (eqb part 0) c d
 cycleColumnNumber part (NoCycleColumn r) = refusedAt r
+
+-- part 0 is the row of a cycle, any other the cycle
+abbrev pub cycleRowNumber : ℕ → CycleRowAnswer → ℕ
+cycleRowNumber part (RowOf d r) = cond (eqb part 0) r d
+cycleRowNumber part (NoCycleRow r) = refusedAt r
 
 -- 2^k is its exponent, zero is 255
 abbrev pub coefficientNumber : Coefficient → ℕ
@@ -138,6 +146,9 @@ reply n ws = record { answer = n; words = ws }
 
 abbrev pub checkReply : Checked → Reply
 checkReply c = reply (checkNumber (c .answer)) (c .scratch)
+
+abbrev pub fillCheckReply : FillChecked → Reply
+fillCheckReply c = reply (checkNumber (c .answer)) (c .batch)
 
 -- 0 is bin, any other number fld
 abbrev pub chosenRelation : ℕ → Relation

@@ -15,13 +15,15 @@ ghost use Prim.Native.Nat.{_<_, _^_};
 ghost use Rattle.field.specs.Gf.{ofWords, added, product, shifted, power};
 ghost use Rattle.layout.specs.Batch.{geometryOf, mapped, unmapped};
 ghost use Rattle.circuit.specs.Circuit.{circuitWords};
-ghost use Rattle.circuit.specs.Batched.{batched};
+ghost use Rattle.circuit.specs.Batched.{batched, unmappedRow};
 ghost use lib.ListN.{getD};
-ghost use Rattle.compare.specs.Numbers.{wordOf, geometryPart, geometryNumber, columnNumber, cycleColumnNumber, coefficientNumber, markNumber, batchNumber};
+ghost use Rattle.compare.specs.Numbers.{wordOf, geometryPart, geometryNumber, columnNumber, cycleColumnNumber, cycleRowNumber, chosenRelation, coefficientNumber, markNumber, batchNumber};
+use crate::check::chosen_relation;
 use crate::check::refused_at;
 use circuit::Coefficient;
 use circuit::Relation;
 use circuit::batch::BatchWord;
+use circuit::batch::CycleRowAnswer;
 use field::Gf128;
 use layout::ColumnAnswer;
 use layout::CycleColumnAnswer;
@@ -124,6 +126,22 @@ pub extern "C" fn compare_way_back(cpi: usize, column: usize, part: u32) -> u64
             if part == 0 { c as u64 } else { cycle as u64 }
         }
         CycleColumnAnswer::Refused(r) => refused_at(r),
+    }
+}
+
+#[no_mangle]
+pub extern "C" fn compare_row_way_back(
+    cpi: usize,
+    relation: u32,
+    batch_row: usize,
+    part: u32,
+) -> u64
+    ensures { λ r. ⌜ r ≡ cycleRowNumber part (unmappedRow cpi (chosenRelation relation) «batch_row») ⌝ }
+{
+    let answer = circuit::batch::unmap_row(cpi, chosen_relation(relation), batch_row);
+    match answer {
+        CycleRowAnswer::At { cycle, row } => { if part == 0 { row as u64 } else { cycle as u64 } }
+        CycleRowAnswer::Refused(r) => refused_at(r),
     }
 }
 
