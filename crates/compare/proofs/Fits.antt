@@ -1,4 +1,5 @@
--- The number of whatever `batched` gives fits in 64 bits: by the questions that come first, its parts are small.
+-- The number of whatever `batched` gives fits in 64 bits: by the questions that come first, its parts are small. So does that of a word by
+-- itself, whose parts are a few of its bits, and a refusal's, of whose place 32 bits are kept.
 -- Assumes nothing.
 use mathlib.Core.Path.{_≡_, refl}
 use mathlib.Core.Bool.{Bool, true, false, cond}
@@ -16,13 +17,21 @@ use Rattle.circuit.specs.declared.Relation.{Relation}
 use Rattle.circuit.specs.declared.Relation.the-variants.{Bin, Fld}
 use Rattle.circuit.specs.declared.Coefficient.{Coefficient}
 use Rattle.circuit.specs.declared.Coefficient.the-variants.{Zero, Power}
+use Rattle.circuit.specs.declared.Word.{Word}
 use Rattle.circuit.specs.declared.Word.the-variants.{Mark, Term as OneTerm}
 use Rattle.circuit.specs.declared.batch.BatchWord.{BatchWord}
 use Rattle.circuit.specs.declared.batch.BatchWord.the-variants.{Row, Refused}
 use Rattle.circuit.specs.Words.{bits, kindOf, isMark, flagOf, cleanOf, relationOf, coefficientOf, wordOf}
 use Rattle.circuit.specs.Found.{rowsACycle}
 use Rattle.circuit.specs.Batched.{batchRow, rowIn, termOn, inCycle, batched}
-use Rattle.compare.specs.Numbers.{coefficientNumber, batchNumber}
+use Rattle.compare.specs.Numbers.{keptPlace, coefficientNumber, markNumber, batchNumber, wordNumber}
+
+pub place-small : (p : ℕ) → keptPlace p < 2 ^ 32
+place-small p = by-test (ltb p (2 ^ 32 - 1)) refl
+  where
+    by-test : (b : Bool) → ltb p (2 ^ 32 - 1) ≡ b → cond b p (2 ^ 32 - 1) < 2 ^ 32
+    by-test true e = omega (arith, ltb-true p (2 ^ 32 - 1) e)
+    by-test false e = omega arith
 
 abbrev pub Fits : BatchWord → Type 0
 Fits w = batchNumber w < 2 ^ 64
@@ -33,6 +42,21 @@ coefficient-small w = by-test (eqb (flagOf w) 0)
     by-test : (b : Bool) → coefficientNumber (cond b (Power (bits 12 6 w)) Zero) ≤ 255
     by-test true = omega arith
     by-test false = omega arith
+
+mark-small : (rel : Relation) → markNumber rel ≤ 4
+mark-small Bin = omega arith
+mark-small Fld = omega arith
+
+abbrev pub WordFits : Word → Type 0
+WordFits w = wordNumber w < 2 ^ 64
+
+pub word-fits : (w : ℕ) → w < 2 ^ 32 → WordFits (wordOf w)
+unfolding wordOf
+word-fits w h = by-test (isMark w)
+  where
+    by-test : (m : Bool) → WordFits (cond m (Mark (relationOf w) (w % 2 ^ 9)) (OneTerm (kindOf w) (coefficientOf w) (w % 2 ^ 12)))
+    by-test true = omega (arith, mark-small (relationOf w))
+    by-test false = omega (arith, coefficient-small w)
 
 module _ (cpi d : ℕ) (ok : allowed cpi ≡ true) where
   row-fits : (rel : Relation) (r : ℕ) → Fits (rowIn cpi d rel r)

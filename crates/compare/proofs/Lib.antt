@@ -1,4 +1,3 @@
 pub mod Fits
 pub mod Entries
-pub mod FirstSix
 pub mod Ored

@@ -1,13 +1,14 @@
--- Answers as single numbers, for a caller in another language: a refusal is 2^63 and its number.
+-- Answers as single numbers, for a caller in another language. A refusal is the same number everywhere, `refusedAt`.
 -- Assumes nothing.
-use mathlib.Core.Bool.{cond}
+use mathlib.Core.Bool.{Bool, cond}
 use mathlib.Core.List.{List, [], _∷_, _++_}
-use Prim.Native.Nat.{ℕ, zero, suc, _+_, _*_, _%_, _^_}
+use Prim.Native.Nat.{ℕ, zero, suc, _+_, _-_, _*_, _%_, _^_}
 use lib.Dec.{eqb, ltb}
 use lib.ListN.{length, getD, drop}
 use Rattle.field.specs.declared.Gf128.{Gf128}
 use Rattle.field.specs.Gf.{low, high}
 use Rattle.layout.specs.Segments.{segments, segmentNames, segmentStarts, segmentLengths}
+use Rattle.layout.specs.Questions.{no}
 use Rattle.layout.specs.declared.Refusal.{Refusal}
 use Rattle.layout.specs.declared.InstanceGeometry.{InstanceGeometry}
 use Rattle.layout.specs.declared.GeometryAnswer.{GeometryAnswer}
@@ -20,12 +21,16 @@ use Rattle.circuit.specs.declared.Relation.{Relation}
 use Rattle.circuit.specs.declared.Relation.the-variants.{Bin, Fld}
 use Rattle.circuit.specs.declared.Coefficient.{Coefficient}
 use Rattle.circuit.specs.declared.Coefficient.the-variants.{Zero, Power}
+use Rattle.circuit.specs.declared.Word.{Word}
+use Rattle.circuit.specs.declared.Word.the-variants.{Mark, Term as OneTerm}
 use Rattle.circuit.specs.declared.batch.BatchWord.{BatchWord}
 use Rattle.circuit.specs.declared.batch.BatchWord.the-variants.{Row, Term, Refused}
+use Rattle.circuit.specs.declared.batch.CycleRowAnswer.{CycleRowAnswer}
+use Rattle.circuit.specs.declared.batch.CycleRowAnswer.the-variants.{At as RowOf, Refused as NoCycleRow}
 use Rattle.circuit.specs.declared.search.Found.{Found}
 use Rattle.circuit.specs.declared.search.Found.the-variants.{At as Stands, Refused as NotFound}
 use Rattle.circuit.specs.Valid.{validated}
-use Rattle.circuit.specs.Found.{found}
+use Rattle.circuit.specs.Found.{found, partOf}
 use Rattle.circuit.specs.Reader.{admitted, positionAfter}
 use Rattle.verdict.specs.declared.Verdict.{Verdict}
 use Rattle.verdict.specs.declared.Verdict.the-variants.{Accepted, Failed}
@@ -42,6 +47,7 @@ use Rattle.layout.specs.declared.Asked.the-variants.{Yes, No}
 use Rattle.step.specs.declared.conditions.StepAnswer.{StepAnswer}
 use Rattle.step.specs.declared.conditions.StepAnswer.the-variants.{Meets, Unmet, Refused as NotAsked}
 use Rattle.step.specs.Fill.{Called}
+use Rattle.judge.specs.FillCheck.{FillChecked}
 use Rattle.packed.specs.declared.Packing.{Packing}
 use Rattle.packed.specs.declared.Packing.the-variants.{Bits, NotBits, Refused as NotPacked}
 use Rattle.packed.specs.Packed.{PackCalled}
@@ -51,8 +57,14 @@ use Rattle.compare.specs.declared.reader.TwoRows.{TwoRows}
 abbrev pub wordOf : ℕ → Gf128 → ℕ
 wordOf part e = cond (eqb part 0) (low e) (high e)
 
-abbrev pub refusalNumber : Refusal → ℕ
-refusalNumber r = 2 ^ 63 + r .number
+-- a place as it is handed out: one from 2^32 - 1 on, which no batch and no listing has, stands as that, so that no wrong place looks
+-- like a right one
+abbrev pub keptPlace : ℕ → ℕ
+keptPlace p = cond (ltb p (2 ^ 32 - 1)) p (2 ^ 32 - 1)
+
+-- 2^63, 2^32 times the number, and the place
+abbrev pub refusedAt : Refusal → ℕ
+refusedAt r = 2 ^ 63 + r .number * 2 ^ 32 + keptPlace (r .place)
 
 abbrev pub geometryPart : ℕ → InstanceGeometry → ℕ
 geometryPart zero g = g .cpi
@@ -63,15 +75,20 @@ geometryPart (suc (suc (suc (suc n)))) g = g .w128
 
 abbrev pub geometryNumber : ℕ → GeometryAnswer → ℕ
 geometryNumber part (Of g) = geometryPart part g
-geometryNumber part (NoGeometry r) = refusalNumber r
+geometryNumber part (NoGeometry r) = refusedAt r
 
 abbrev pub columnNumber : ColumnAnswer → ℕ
 columnNumber (At c) = c
-columnNumber (NoColumn r) = refusalNumber r
+columnNumber (NoColumn r) = refusedAt r
 
 abbrev pub cycleColumnNumber : ℕ → CycleColumnAnswer → ℕ
 cycleColumnNumber part (In c d) = cond (eqb part 0) c d
-cycleColumnNumber part (NoCycleColumn r) = refusalNumber r
+cycleColumnNumber part (NoCycleColumn r) = refusedAt r
+
+-- part 0 is the row of a cycle, any other the cycle
+abbrev pub cycleRowNumber : ℕ → CycleRowAnswer → ℕ
+cycleRowNumber part (RowOf d r) = cond (eqb part 0) r d
+cycleRowNumber part (NoCycleRow r) = refusedAt r
 
 -- 2^k is its exponent, zero is 255
 abbrev pub coefficientNumber : Coefficient → ℕ
@@ -86,13 +103,23 @@ markNumber Fld = 4
 abbrev pub batchNumber : BatchWord → ℕ
 batchNumber (Row rel n) = n + markNumber rel * 2 ^ 40
 batchNumber (Term side k c) = c + coefficientNumber k * 2 ^ 32 + side * 2 ^ 40
-batchNumber (Refused r) = refusalNumber r
+batchNumber (Refused r) = refusedAt r
 
--- ---- the check: a refusal also says its place
+-- a word by itself: its row or column as it stands there, and the rest as above
+abbrev pub wordNumber : Word → ℕ
+wordNumber (Mark rel n) = batchNumber (Row rel n)
+wordNumber (OneTerm side k c) = batchNumber (Term side k c)
 
--- 2^63, 2^32 times the number, and the place, of which 32 bits are kept
-abbrev pub refusedAt : Refusal → ℕ
-refusedAt r = 2 ^ 63 + r .number * 2 ^ 32 + r .place % 2 ^ 32
+abbrev pub yesNumber : Bool → ℕ
+yesNumber b = cond b 1 0
+
+-- ---- entries of a list
+
+-- entry i of a list, 2^63 past its end
+abbrev pub entryOf : ℕ → List ℕ → ℕ
+entryOf i xs = getD xs i (2 ^ 63)
+
+-- ---- the check
 
 -- 2^62, and 2^61 for fld
 abbrev pub failedIn : Relation → ℕ
@@ -119,6 +146,9 @@ reply n ws = record { answer = n; words = ws }
 
 abbrev pub checkReply : Checked → Reply
 checkReply c = reply (checkNumber (c .answer)) (c .scratch)
+
+abbrev pub fillCheckReply : FillChecked → Reply
+fillCheckReply c = reply (checkNumber (c .answer)) (c .batch)
 
 -- 0 is bin, any other number fld
 abbrev pub chosenRelation : ℕ → Relation
@@ -169,13 +199,16 @@ stepNumber (NotAsked r) = refusedAt r
 
 -- ---- the listing reader
 
--- words are opened and asked for a row, and then for another: each is sought in all the words that the reader has
-abbrev pub twoRows : List ℕ → Relation → ℕ → Relation → ℕ → TwoRows
-twoRows ws rel n rel′ n′ = record {
+-- words are opened and asked for a row, and then for another: each is sought in all the words that the reader has, and of each
+-- part word i is read
+abbrev pub twoRows : List ℕ → Relation → ℕ → Relation → ℕ → ℕ → TwoRows
+twoRows ws rel n rel′ n′ i = record {
   asked = validated ws;
   first = found (admitted (validated ws) ws) rel n;
+  «first_word» = entryOf i (partOf (found (admitted (validated ws) ws) rel n) (admitted (validated ws) ws));
   between = positionAfter (found (admitted (validated ws) ws) rel n) 0;
   second = found (admitted (validated ws) ws) rel′ n′;
+  «second_word» = entryOf i (partOf (found (admitted (validated ws) ws) rel′ n′) (admitted (validated ws) ws));
   last = positionAfter (found (admitted (validated ws) ws) rel′ n′) (positionAfter (found (admitted (validated ws) ws) rel n) 0);
 }
 
@@ -189,20 +222,32 @@ abbrev pub endNumber : Found → ℕ
 endNumber (Stands start end) = end
 endNumber (NotFound r) = 0
 
--- six words: of each row its start, its end, and the position afterwards
+-- part 0 is where a row starts, any other its end
+abbrev pub foundNumber : ℕ → Found → ℕ
+foundNumber part f = cond (eqb part 0) (startNumber f) (endNumber f)
+
+-- any start and end for 0, else a refusal
+abbrev pub chosenPlace : ℕ → ℕ → ℕ → Found
+chosenPlace refused start end = cond (eqb refused 0) (Stands start end) (NotFound (no 13 0))
+
+-- eight words: of each row its start, its end, the word of its part, and the position afterwards
 abbrev pub rowWords : TwoRows → List ℕ
 rowWords t =
-    startNumber (t .first) ∷ endNumber (t .first) ∷ t .between ∷ startNumber (t .second) ∷ endNumber (t .second) ∷ t .last ∷ []
+    startNumber (t .first)
+    ∷ endNumber (t .first)
+    ∷ t .«first_word»
+    ∷ t .between
+    ∷ startNumber (t .second)
+    ∷ endNumber (t .second)
+    ∷ t .«second_word»
+    ∷ t .last
+    ∷ []
 
--- what the opening answered, and the words over the first six; with no room for six nothing is asked, and the answer is 2^63
+-- what the opening answered, and the words over the first eight; with no room for eight nothing is asked, and the answer is 2^63
 abbrev pub readerReply : TwoRows → List ℕ → Reply
-readerReply t out = cond (ltb (length out) 6) (reply (2 ^ 63) out) (reply (askedNumber (t .asked)) (rowWords t ++ drop 6 out))
+readerReply t out = cond (ltb (length out) 8) (reply (2 ^ 63) out) (reply (askedNumber (t .asked)) (rowWords t ++ drop 8 out))
 
 -- ---- the tables of columns and segments
-
--- entry i of a list, 2^63 past its end
-abbrev pub entryOf : ℕ → List ℕ → ℕ
-entryOf i xs = getD xs i (2 ^ 63)
 
 -- byte k of the name of segment i: names are filled up with blanks to 9 bytes
 abbrev pub nameByte : ℕ → ℕ → ℕ

@@ -1,4 +1,4 @@
-// The check, a row's sums and the bit test.
+// The check, by itself and behind the filler, a row's sums and the bit test.
 ghost use mathlib.Core.Path.{_≡_};
 ghost use mathlib.Core.List.{_++_};
 ghost use Prim.Native.Nat.{_<_, _≤_, _^_};
@@ -6,7 +6,8 @@ ghost use lib.ListN.{length, drop};
 ghost use Rattle.verdict.specs.Check.{checked, houseChecked};
 ghost use Rattle.verdict.specs.Apply.{applied};
 ghost use Rattle.verdict.specs.Bits.{bitTested};
-ghost use Rattle.compare.specs.Numbers.{refusedAt, failedIn, verdictNumber, checkNumber, reply, checkReply, chosenRelation, sumWords, sumsReply, applyReply, bitNumber};
+ghost use Rattle.judge.specs.FillCheck.{fillChecked};
+ghost use Rattle.compare.specs.Numbers.{keptPlace, refusedAt, failedIn, verdictNumber, checkNumber, reply, checkReply, fillCheckReply, chosenRelation, sumWords, sumsReply, applyReply, bitNumber};
 use circuit::Relation;
 use layout::Refusal;
 use verdict::ApplyAnswer;
@@ -15,10 +16,20 @@ use verdict::Sums;
 use verdict::Verdict;
 use verdict::bits::BitAnswer;
 
+fn kept_place(place: usize) -> u64
+    ensures { λ n. ⌜ n ≡ keptPlace place ⌝ }
+{
+    if place < 0xffffffff {
+        place as u64
+    } else {
+        0xffffffff
+    }
+}
+
 pub fn refused_at(r: Refusal) -> u64
     ensures { λ n. ⌜ n ≡ refusedAt r ⌝ }
 {
-    0x8000000000000000 + r.number as u64 * 0x100000000 + r.place as u64 % 0x100000000
+    0x8000000000000000 + r.number as u64 * 0x100000000 + kept_place(r.place)
 }
 
 fn failed_in(relation: Relation) -> u64
@@ -91,6 +102,14 @@ pub extern "C" fn compare_check_house_plain(cpi: usize, batch: &[u64]) -> u64
     ensures { λ r. ⌜ r ≡ checkNumber (houseChecked cpi (now (batch .entry))) ⌝ }
 {
     check_number(verdict::check_house(cpi, batch))
+}
+
+// A batch is filled and then checked, in one call.
+#[no_mangle]
+pub extern "C" fn compare_fill_and_check(cpi: usize, batch: &mut [u64]) -> u64
+    ensures { λ r. ⌜ reply r (now (batch .exit)) ≡ fillCheckReply (fillChecked cpi (now (batch .entry))) ⌝ }
+{
+    check_number(judge::fill_and_check(cpi, batch))
 }
 
 pub fn chosen_relation(n: u32) -> Relation

@@ -6,25 +6,29 @@ pub mod makers;
 pub mod packing;
 pub mod reader;
 pub mod reads;
+pub mod search;
 pub mod tables;
+pub mod words;
 
 ghost use mathlib.Core.Path.{_≡_};
 ghost use Prim.Native.Nat.{_<_, _^_};
 ghost use Rattle.field.specs.Gf.{ofWords, added, product, shifted, power};
 ghost use Rattle.layout.specs.Batch.{geometryOf, mapped, unmapped};
 ghost use Rattle.circuit.specs.Circuit.{circuitWords};
-ghost use Rattle.circuit.specs.Batched.{batched};
+ghost use Rattle.circuit.specs.Batched.{batched, unmappedRow};
 ghost use lib.ListN.{getD};
-ghost use Rattle.compare.specs.Numbers.{wordOf, refusalNumber, geometryPart, geometryNumber, columnNumber, cycleColumnNumber, coefficientNumber, markNumber, batchNumber};
+ghost use Rattle.compare.specs.Numbers.{wordOf, geometryPart, geometryNumber, columnNumber, cycleColumnNumber, cycleRowNumber, chosenRelation, coefficientNumber, markNumber, batchNumber};
+use crate::check::chosen_relation;
+use crate::check::refused_at;
 use circuit::Coefficient;
 use circuit::Relation;
 use circuit::batch::BatchWord;
+use circuit::batch::CycleRowAnswer;
 use field::Gf128;
 use layout::ColumnAnswer;
 use layout::CycleColumnAnswer;
 use layout::GeometryAnswer;
 use layout::InstanceGeometry;
-use layout::Refusal;
 
 fn word_of(e: Gf128, word: u32) -> u64
     ensures { λ r. ⌜ r ≡ wordOf word e ⌝ }
@@ -66,12 +70,6 @@ pub extern "C" fn compare_times_power(lo: u64, hi: u64, k: u32, word: u32) -> u6
     word_of(Gf128::of_words(lo, hi).times_power(k), word)
 }
 
-fn refusal_number(r: Refusal) -> u64
-    ensures { λ n. ⌜ n ≡ refusalNumber r ⌝ }
-{
-    0x8000000000000000 + r.number as u64
-}
-
 fn geometry_part(g: InstanceGeometry, part: u32) -> u64
     ensures { λ r. ⌜ r ≡ geometryPart part g ⌝ }
 {
@@ -91,7 +89,7 @@ pub extern "C" fn compare_geometry(cpi: usize, part: u32) -> u64
     let answer = layout::geometry(cpi);
     match answer {
         GeometryAnswer::Of(g) => geometry_part(g, part),
-        GeometryAnswer::Refused(r) => refusal_number(r),
+        GeometryAnswer::Refused(r) => refused_at(r),
     }
 }
 
@@ -100,7 +98,7 @@ fn column_number(answer: ColumnAnswer) -> u64
 {
     match answer {
         ColumnAnswer::At(c) => c as u64,
-        ColumnAnswer::Refused(r) => refusal_number(r),
+        ColumnAnswer::Refused(r) => refused_at(r),
     }
 }
 
@@ -127,7 +125,23 @@ pub extern "C" fn compare_way_back(cpi: usize, column: usize, part: u32) -> u64
         CycleColumnAnswer::At { column: c, cycle } => {
             if part == 0 { c as u64 } else { cycle as u64 }
         }
-        CycleColumnAnswer::Refused(r) => refusal_number(r),
+        CycleColumnAnswer::Refused(r) => refused_at(r),
+    }
+}
+
+#[no_mangle]
+pub extern "C" fn compare_row_way_back(
+    cpi: usize,
+    relation: u32,
+    batch_row: usize,
+    part: u32,
+) -> u64
+    ensures { λ r. ⌜ r ≡ cycleRowNumber part (unmappedRow cpi (chosenRelation relation) «batch_row») ⌝ }
+{
+    let answer = circuit::batch::unmap_row(cpi, chosen_relation(relation), batch_row);
+    match answer {
+        CycleRowAnswer::At { cycle, row } => { if part == 0 { row as u64 } else { cycle as u64 } }
+        CycleRowAnswer::Refused(r) => refused_at(r),
     }
 }
 
@@ -173,7 +187,7 @@ fn batch_number(w: BatchWord) -> u64
                 + coefficient_number(coefficient) * 0x100000000
                 + side as u64 * 0x10000000000
         }
-        BatchWord::Refused(r) => refusal_number(r),
+        BatchWord::Refused(r) => refused_at(r),
     }
 }
 

@@ -7,17 +7,20 @@ ghost use Rattle.compare.specs.Numbers.{reply, chosenRelation, twoRows, 
 use crate::check::chosen_relation;
 use crate::check::refused_at;
 use crate::filler::asked_number;
+use crate::search::word_at;
 use circuit::Relation;
 use circuit::reader::ListingReader;
 use circuit::search::Found;
 use layout::Asked;
 
-// What the opening answered, and of each row the place and the position afterwards.
+// What the opening answered, and of each row the place, a word of the part, and the position afterwards.
 pub struct TwoRows {
     pub asked: Asked,
     pub first: Found,
+    pub first_word: u64,
     pub between: usize,
     pub second: Found,
+    pub second_word: u64,
     pub last: usize,
 }
 
@@ -27,8 +30,9 @@ fn two_rows(
     row: usize,
     next_relation: Relation,
     next_row: usize,
+    i: usize,
 ) -> TwoRows
-    ensures { λ r. ⌜ r ≡ twoRows (now (listing .entry)) relation row «next_relation» «next_row» ⌝ }
+    ensures { λ r. ⌜ r ≡ twoRows (now (listing .entry)) relation row «next_relation» «next_row» i ⌝ }
 {
     let opened = ListingReader::open(listing);
     let mut reader = opened.reader;
@@ -38,13 +42,15 @@ fn two_rows(
     TwoRows {
         asked: opened.asked,
         first: first.place,
+        first_word: word_at(first.part, i),
         between,
         second: second.place,
+        second_word: word_at(second.part, i),
         last: reader.position,
     }
 }
 
-fn start_number(place: Found) -> u64
+pub fn start_number(place: Found) -> u64
     ensures { λ n. ⌜ n ≡ startNumber place ⌝ }
 {
     match place {
@@ -53,7 +59,7 @@ fn start_number(place: Found) -> u64
     }
 }
 
-fn end_number(place: Found) -> u64
+pub fn end_number(place: Found) -> u64
     ensures { λ n. ⌜ n ≡ endNumber place ⌝ }
 {
     match place {
@@ -63,17 +69,19 @@ fn end_number(place: Found) -> u64
 }
 
 fn write_rows(read: TwoRows, out: &mut [u64])
-    requires { ⌜ 6 ≤ length (now out) ⌝ }
-    ensures { λ _. ⌜ now (out .exit) ≡ rowWords read ++ drop 6 (now (out .entry)) ⌝ }
+    requires { ⌜ 8 ≤ length (now out) ⌝ }
+    ensures { λ _. ⌜ now (out .exit) ≡ rowWords read ++ drop 8 (now (out .entry)) ⌝ }
 {
     let first = read.first;
     let second = read.second;
     out[0] = start_number(first);
     out[1] = end_number(first);
-    out[2] = read.between as u64;
-    out[3] = start_number(second);
-    out[4] = end_number(second);
-    out[5] = read.last as u64;
+    out[2] = read.first_word;
+    out[3] = read.between as u64;
+    out[4] = start_number(second);
+    out[5] = end_number(second);
+    out[6] = read.second_word;
+    out[7] = read.last as u64;
 }
 
 #[no_mangle]
@@ -83,16 +91,17 @@ pub extern "C" fn compare_reader(
     row: usize,
     next_relation: u32,
     next_row: usize,
+    i: usize,
     out: &mut [u64],
 ) -> u64
-    ensures { λ r. ⌜ reply r (now (out .exit)) ≡ readerReply (twoRows (now (listing .entry)) (chosenRelation relation) row (chosenRelation «next_relation») «next_row») (now (out .entry)) ⌝ }
+    ensures { λ r. ⌜ reply r (now (out .exit)) ≡ readerReply (twoRows (now (listing .entry)) (chosenRelation relation) row (chosenRelation «next_relation») «next_row» i) (now (out .entry)) ⌝ }
 {
-    if out.len() < 6 {
+    if out.len() < 8 {
         return 0x8000000000000000;
     }
     let first = chosen_relation(relation);
     let second = chosen_relation(next_relation);
-    let read = two_rows(listing, first, row, second, next_row);
+    let read = two_rows(listing, first, row, second, next_row, i);
     let asked = read.asked;
     write_rows(read, out);
     asked_number(asked)

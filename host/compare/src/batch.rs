@@ -1,11 +1,12 @@
 //! The house listing, seen in each cycle of a batch, against the original's `build_circuit_batched`.
 
-use crate::columns::{CYCLE, CYCLES, SIZES};
+use crate::columns::{no, CYCLES, SIZES};
 use crate::house::{self, Circuit, Coefficient, Relation, Side, Word};
 use crate::listing::{self, BIN_TERMS, FLD_TERMS};
 use crate::numbers::Numbers;
 use crate::original;
 use crate::report::{test, Tally, Test};
+use crate::verdict::answer::{refusal, CYCLE};
 use product::Answer;
 
 const RANDOM_WORDS: u64 = 400_000;
@@ -164,7 +165,7 @@ fn cycles_refused(tally: &mut Tally) {
         for cycle in [cpi, cpi + 1, 1 << 32, usize::MAX] {
             for (word, right) in words {
                 let place = || format!("word {word:08x} in cycle {cycle} of {cpi}");
-                tally.same(place, product::batched(cpi, cycle, word), Err(right));
+                tally.same(place, product::batched(cpi, cycle, word), no(right));
             }
         }
     }
@@ -179,9 +180,9 @@ fn same_word(tally: &mut Tally, cpi: usize, cycle: usize, word: u32) {
 /// What the boundary owes for a word: this crate's own reading of the house format, and the
 /// original's column map.
 fn right_answer(cpi: usize, cycle: usize, word: u32) -> Answer {
-    let read = house::read(word)?;
+    let read = house::read(word).map_err(refusal)?;
     if cycle >= cpi {
-        return Err(CYCLE);
+        return no(CYCLE);
     }
     let (kind, coefficient, index) = match read {
         Word::Mark { relation, row } => {

@@ -2,16 +2,13 @@
 
 use crate::original;
 use crate::report::{test, Tally, Test};
+use crate::verdict::answer::{refusal, COLUMN, CYCLE, SIZE};
 use product::Answer;
 
 pub const SIZES: [usize; 9] = [1, 2, 4, 8, 16, 32, 64, 128, 256];
 
 /// Cycles of all nine sizes together.
 pub const CYCLES: u64 = 511;
-
-pub const SIZE: u64 = 1;
-pub const COLUMN: u64 = 14;
-pub const CYCLE: u64 = 15;
 
 const W_COLS: usize = 2048;
 const M: usize = 4096;
@@ -65,7 +62,7 @@ fn bench_sheet(tally: &mut Tally) {
     tally.same(|| "column 5 of cycle 2 of 4".into(), batch_column, Ok(22));
     for cpi in [0, 3, 512] {
         let place = || format!("geometry of {cpi}");
-        tally.same(place, product::geometry(cpi, 0), Err(SIZE));
+        tally.same(place, product::geometry(cpi, 0), no(SIZE));
     }
 }
 
@@ -105,18 +102,18 @@ fn sizes_taken(tally: &mut Tally) {
         let right = if original::takes_size(cpi) && cpi <= 256 {
             value(cpi)
         } else {
-            Err(SIZE)
+            no(SIZE)
         };
         let place = || format!("geometry of {cpi}");
         tally.same(place, product::geometry(cpi, 0), right);
     }
 }
 
-const REFUSED_SIZES: u64 = LAST_SIZE as u64 + 1 - 9 + 53 + 4;
+pub const REFUSED_SIZES: u64 = LAST_SIZE as u64 + 1 - 9 + 53 + 4;
 
 /// Sizes from 0 to 1,024 that are not allowed, the larger powers of two, and a few that look like an
 /// allowed one to a test of too few bits.
-fn refused_sizes() -> Vec<usize> {
+pub fn refused_sizes() -> Vec<usize> {
     let mut sizes: Vec<usize> = (0..=LAST_SIZE).filter(|cpi| !SIZES.contains(cpi)).collect();
     sizes.extend((11..64).map(|k| 1 << k));
     sizes.extend([usize::MAX, (1 << 32) + 1, (1 << 32) + 256, (1 << 63) + 4]);
@@ -142,7 +139,7 @@ fn sizes_refused(tally: &mut Tally) {
             product::batched(cpi, 0, FLD_ROW_32),
         ];
         for (i, answer) in answers.into_iter().enumerate() {
-            tally.same(|| format!("size {cpi}, call {i}"), answer, Err(SIZE));
+            tally.same(|| format!("size {cpi}, call {i}"), answer, no(SIZE));
         }
     }
 }
@@ -153,11 +150,11 @@ fn columns_refused(tally: &mut Tally) {
         for cycle in [0, cpi - 1, cpi, cpi + 1, 1 << 40, usize::MAX] {
             for column in [W_COLS, W_COLS + 1, M, usize::MAX] {
                 let place = || cell("map_col", cpi, column, cycle);
-                tally.same(place, product::map_col(cpi, column, cycle), Err(COLUMN));
+                tally.same(place, product::map_col(cpi, column, cycle), no(COLUMN));
             }
             for column in [M, M + 1, 1 << 32, usize::MAX] {
                 let place = || cell("map_z_col", cpi, column, cycle);
-                tally.same(place, product::map_z_col(cpi, column, cycle), Err(COLUMN));
+                tally.same(place, product::map_z_col(cpi, column, cycle), no(COLUMN));
             }
         }
     }
@@ -169,11 +166,11 @@ fn cycles_refused(tally: &mut Tally) {
         for cycle in [cpi, cpi + 1, 1 << 32, usize::MAX] {
             for column in [0, 1, 1000, W_COLS - 1] {
                 let place = || cell("map_col", cpi, column, cycle);
-                tally.same(place, product::map_col(cpi, column, cycle), Err(CYCLE));
+                tally.same(place, product::map_col(cpi, column, cycle), no(CYCLE));
             }
             for column in [0, 1, 1000, W_COLS - 1, W_COLS, W_COLS + 1, M - 1] {
                 let place = || cell("map_z_col", cpi, column, cycle);
-                tally.same(place, product::map_z_col(cpi, column, cycle), Err(CYCLE));
+                tally.same(place, product::map_z_col(cpi, column, cycle), no(CYCLE));
             }
         }
     }
@@ -188,7 +185,7 @@ fn way_back_refused(tally: &mut Tally) {
                 tally.same(
                     place,
                     product::way_back(cpi, batch_column, part),
-                    Err(COLUMN),
+                    no(COLUMN),
                 );
             }
         }
@@ -204,6 +201,11 @@ fn for_cells(columns: usize, mut each: impl FnMut(usize, usize, usize)) {
             }
         }
     }
+}
+
+/// A refusal, whose place is 0 with all that is asked here.
+pub fn no(number: u64) -> Answer {
+    Err(refusal(number))
 }
 
 fn value(number: usize) -> Answer {

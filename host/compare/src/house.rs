@@ -100,7 +100,7 @@ fn read_term(side: Side, word: u32) -> Result<Word, u64> {
 }
 
 /// Bits `high` down to `low` of a word.
-fn bits(word: u32, high: u32, low: u32) -> u32 {
+pub fn bits(word: u32, high: u32, low: u32) -> u32 {
     (word >> low) & (u32::MAX >> (31 - (high - low)))
 }
 

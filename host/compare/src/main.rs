@@ -15,8 +15,10 @@ mod numbers;
 mod original;
 mod parallel;
 mod report;
+mod rows;
 mod verdict;
 mod witness;
+mod words;
 
 use std::process::ExitCode;
 
@@ -37,6 +39,8 @@ fn main() -> ExitCode {
     tests.extend(layout::tests());
     tests.extend(listing::tests());
     tests.extend(batch::tests());
+    tests.extend(words::tests());
+    tests.extend(rows::tests());
     tests.extend(verdict::tests());
     tests.extend(filler::tests());
     tests.extend(witness::tests());

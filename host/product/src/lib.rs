@@ -12,8 +12,23 @@ use std::ops::Range;
 /// that lie between them. Of the public ones it looks at the two that rows name.
 pub const LOOKED_AT: [Range<usize>; 2] = [0..960, 1024..1152];
 
-/// A value, or the number of the question that was answered with no.
-pub type Answer = Result<u64, u64>;
+/// A question that was answered with no, and where.
+#[derive(Clone, Copy, Debug, PartialEq, Eq)]
+pub struct Refusal {
+    pub number: u64,
+    pub place: usize,
+}
+
+impl Refusal {
+    /// The number that stands for it at the boundary: 2^63 + number · 2^32 + place. A place from 2^32 - 1
+    /// on, which nothing that is lent has, crosses as that.
+    pub fn answer(self) -> u64 {
+        1 << 63 | self.number << 32 | self.place as u64
+    }
+}
+
+/// A value, or a refusal.
+pub type Answer = Result<u64, Refusal>;
 
 mod c {
     extern "C" {
@@ -25,8 +40,13 @@ mod c {
         pub fn compare_map_col(cpi: usize, column: usize, cycle: usize) -> u64;
         pub fn compare_map_z_col(cpi: usize, column: usize, cycle: usize) -> u64;
         pub fn compare_way_back(cpi: usize, batch_column: usize, part: u32) -> u64;
+        pub fn compare_row_way_back(cpi: usize, relation: u32, batch_row: usize, part: u32) -> u64;
         pub fn compare_listing_word(i: usize) -> u32;
         pub fn compare_batched(cpi: usize, cycle: usize, word: u32) -> u64;
+        pub fn compare_read_word(word: u32) -> u64;
+        pub fn compare_relation_of(word: u32) -> u64;
+        pub fn compare_coefficient_of(word: u32) -> u64;
+        pub fn compare_is_clean(word: u32) -> u64;
         pub fn compare_layout(i: usize) -> u64;
         pub fn compare_segment(i: usize, part: u32) -> u64;
         pub fn compare_width(i: usize) -> u64;
@@ -51,6 +71,7 @@ mod c {
             scratch_len: usize,
         ) -> u64;
         pub fn compare_check_house_plain(cpi: usize, batch: *const u64, batch_len: usize) -> u64;
+        pub fn compare_fill_and_check(cpi: usize, batch: *mut u64, batch_len: usize) -> u64;
         pub fn compare_is_house(listing: *const u32, listing_len: usize) -> u64;
         pub fn compare_pack_named(
             cpi: usize,
@@ -82,8 +103,38 @@ mod c {
             row: usize,
             next_relation: u32,
             next_row: usize,
+            i: usize,
             out: *mut u64,
             out_len: usize,
+        ) -> u64;
+        pub fn compare_find_row(
+            listing: *const u32,
+            listing_len: usize,
+            relation: u32,
+            row: usize,
+            part: u32,
+        ) -> u64;
+        pub fn compare_read_row(
+            listing: *const u32,
+            listing_len: usize,
+            relation: u32,
+            row: usize,
+            part: u32,
+        ) -> u64;
+        pub fn compare_row_part(
+            listing: *const u32,
+            listing_len: usize,
+            relation: u32,
+            row: usize,
+            i: usize,
+        ) -> u64;
+        pub fn compare_part_at(
+            listing: *const u32,
+            listing_len: usize,
+            refused: u32,
+            start: usize,
+            end: usize,
+            i: usize,
         ) -> u64;
         pub fn compare_fill(cpi: usize, batch: *mut u64, batch_len: usize) -> u64;
         pub fn compare_first_unmet(
@@ -170,6 +221,11 @@ pub fn way_back(cpi: usize, batch_column: usize, part: u32) -> Answer {
     answer(unsafe { c::compare_way_back(cpi, batch_column, part) })
 }
 
+/// Part 0 is the row that a batch row came from, any other the cycle. Relation 0 is bin, any other fld.
+pub fn row_way_back(cpi: usize, relation: u32, batch_row: usize, part: u32) -> Answer {
+    answer(unsafe { c::compare_row_way_back(cpi, relation, batch_row, part) })
+}
+
 /// Word i of the house listing, 0 past its end.
 pub fn listing_word(i: usize) -> u32 {
     unsafe { c::compare_listing_word(i) }
@@ -178,6 +234,26 @@ pub fn listing_word(i: usize) -> u32 {
 /// A listing word as a cycle of a batch has it: index + 2^32 · coefficient + 2^40 · kind.
 pub fn batched(cpi: usize, cycle: usize, word: u32) -> Answer {
     answer(unsafe { c::compare_batched(cpi, cycle, word) })
+}
+
+/// What a word stands for by itself, must-be-zero bits passed over, in the numbers of `batched`.
+pub fn read_word(word: u32) -> u64 {
+    unsafe { c::compare_read_word(word) }
+}
+
+/// The relation that bit 29 of a word says: 3 bin, 4 fld.
+pub fn relation_of(word: u32) -> u64 {
+    unsafe { c::compare_relation_of(word) }
+}
+
+/// The coefficient of a word: k for 2^k, 255 for zero.
+pub fn coefficient_of(word: u32) -> u64 {
+    unsafe { c::compare_coefficient_of(word) }
+}
+
+/// 1 where the must-be-zero bits of a word are zero, else 0.
+pub fn is_clean(word: u32) -> u64 {
+    unsafe { c::compare_is_clean(word) }
 }
 
 /// Constant i of the layout, in the order of the proved library's own table.
@@ -239,6 +315,12 @@ pub fn check_row_plain(cpi: usize, listing: &[u32], batch: &[u64], scratch: &mut
 /// The same verdict as `check_house` by the plain walk over the house listing.
 pub fn check_house_plain(cpi: usize, batch: &[u64]) -> u64 {
     unsafe { c::compare_check_house_plain(cpi, batch.as_ptr(), batch.len()) }
+}
+
+/// Fills a batch and checks it against the house listing. Answers as `check_house` does on what is
+/// filled, or as `fill` where that refuses.
+pub fn fill_and_check(cpi: usize, batch: &mut [u64]) -> u64 {
+    unsafe { c::compare_fill_and_check(cpi, batch.as_mut_ptr(), batch.len()) }
 }
 
 /// Whether the words are the house listing's.
@@ -316,10 +398,11 @@ pub fn bit_test(cpi: usize, batch: &[u64]) -> u64 {
 }
 
 /// Opens a listing, asks its reader for a row and then for the next, and writes of each its start,
-/// its end and the reader's position afterwards: six words. A row that is refused has 2^63 + number ·
-/// 2^32 for its start, and end 0. Returns 0 for a listing that opens, else 2^63 + number · 2^32 +
-/// place, or 2^63 alone for an `out` of fewer than six words.
-pub fn reader(listing: &[u32], row: Row, next: Row, out: &mut [u64]) -> u64 {
+/// its end, word i of its part and the reader's position afterwards: eight words. Past the end of a part
+/// the word is 2^63. A row that is refused has 2^63 + number · 2^32 for its start, and end 0. Returns 0
+/// for a listing that opens, else 2^63 + number · 2^32 + place, or 2^63 alone for an `out` of fewer than
+/// eight words.
+pub fn reader(listing: &[u32], row: Row, next: Row, i: usize, out: &mut [u64]) -> u64 {
     unsafe {
         c::compare_reader(
             listing.as_ptr(),
@@ -328,10 +411,44 @@ pub fn reader(listing: &[u32], row: Row, next: Row, out: &mut [u64]) -> u64 {
             row.row,
             next.relation,
             next.row,
+            i,
             out.as_mut_ptr(),
             out.len(),
         )
     }
+}
+
+/// Where a row starts in any words, for part 0; for any other part where it ends, 0 for one that is
+/// refused.
+pub fn find_row(listing: &[u32], row: Row, part: u32) -> Answer {
+    let (words, len) = (listing.as_ptr(), listing.len());
+    answer(unsafe { c::compare_find_row(words, len, row.relation, row.row, part) })
+}
+
+/// The same in words that are opened first.
+pub fn read_row(listing: &[u32], row: Row, part: u32) -> Answer {
+    let (words, len) = (listing.as_ptr(), listing.len());
+    answer(unsafe { c::compare_read_row(words, len, row.relation, row.row, part) })
+}
+
+/// Word i of a row's part of any words, 2^63 past its end.
+pub fn row_part(listing: &[u32], row: Row, i: usize) -> u64 {
+    let (words, len) = (listing.as_ptr(), listing.len());
+    unsafe { c::compare_row_part(words, len, row.relation, row.row, i) }
+}
+
+/// A place as it is handed in: `refused` 0 is the words from start to end, any other a refusal.
+#[derive(Clone, Copy, Debug)]
+pub struct Place {
+    pub refused: u32,
+    pub start: usize,
+    pub end: usize,
+}
+
+/// Word i of the part at a place, 2^63 past its end.
+pub fn part_at(listing: &[u32], place: Place, i: usize) -> u64 {
+    let (words, len) = (listing.as_ptr(), listing.len());
+    unsafe { c::compare_part_at(words, len, place.refused, place.start, place.end, i) }
 }
 
 /// Writes the derived columns of a batch and returns 0. Refused: 2^63 + number · 2^32 + place.
@@ -383,13 +500,14 @@ pub fn read_branch(opcode: u32, funct3: u32, rs1: u64, rs2: u64) -> u64 {
     unsafe { c::compare_read_branch(opcode, funct3, rs1, rs2) }
 }
 
-/// A refusal crosses the boundary as 2^63 + number.
 fn answer(raw: u64) -> Answer {
     if raw >> 63 == 0 {
-        Ok(raw)
-    } else {
-        Err(raw & !(1 << 63))
+        return Ok(raw);
     }
+    Err(Refusal {
+        number: (raw & !(1 << 63)) >> 32,
+        place: raw as u32 as usize,
+    })
 }
 
 fn element(lo: u64, hi: u64) -> u128 {

@@ -7,7 +7,7 @@ use Rattle.compare.proofs.batch_number.Statement.{statement}
 use Rattle.compare.proofs.batch_number.Tie as tie
 
 refusal : tie.Need-returns-3
-refusal c = c .refusal-number .ensures ∙ sym (ap batchNumber (c .before .before .w3 .given .1))
+refusal c = c .refused-at .ensures ∙ sym (ap batchNumber (c .before .before .w3 .given .1))
 
 pub batch-number-spec : {M : Type 1} → statement M
 batch-number-spec =

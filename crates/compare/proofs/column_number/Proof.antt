@@ -6,7 +6,7 @@ use Rattle.compare.proofs.column_number.Statement.{statement}
 use Rattle.compare.proofs.column_number.Tie as tie
 
 refusal : tie.Need-returns-2
-refusal c = c .refusal-number .ensures ∙ sym (ap columnNumber (c .before .before .answer2 .given .1))
+refusal c = c .refused-at .ensures ∙ sym (ap columnNumber (c .before .before .answer2 .given .1))
 
 pub column-number-spec : {M : Type 1} → statement M
 column-number-spec =

@@ -14,7 +14,7 @@ part c =
 refusal : tie.Need-returns-2
 refusal c =
     let b = c .before .before in
-    c .refusal-number .ensures
+    c .refused-at .ensures
     ∙ ap (geometryNumber (b .before .before .before .args .part)) (sym (b .answer2 .given .1) ∙ b .before .before .geometry .ensures)
 
 pub compare-geometry-spec : {M : Type 1} → statement M

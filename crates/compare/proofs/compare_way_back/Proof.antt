@@ -22,7 +22,7 @@ cycle c =
 refusal : tie.Need-returns-3
 refusal c =
     let b = c .before .before in
-    c .refusal-number .ensures
+    c .refused-at .ensures
     ∙ ap (cycleColumnNumber (b .before .before .before .args .part)) (sym (b .answer2 .given .1) ∙ b .before .before .unmap-col .ensures)
 
 pub compare-way-back-spec : {M : Type 1} → statement M

@@ -9,8 +9,10 @@ use crate::numbers::Numbers;
 use crate::original::Gf128;
 use crate::parallel::in_parts;
 use crate::report::{test, Tally, Test};
+use crate::verdict::answer::Verdict;
 use crate::verdict::batches::{self, batch_column, Batch, ONE_COLUMN, WITNESS_COLUMNS};
 use crate::verdict::judge::{of_a_house_verdict, Judge};
+use crate::verdict::lent::Lent;
 
 /// Every setting of eight flags, every offset, each condition broken and none.
 const DIRECTED: usize = 256 * 8 * (CONDITIONS + 1);
@@ -19,10 +21,14 @@ const DIRECTED: usize = 256 * 8 * (CONDITIONS + 1);
 const RANDOM: [usize; 9] = [70_000, 6_000, 1_500, 600, 200, 80, 32, 16, 8];
 
 /// Comparisons of one batch: the answer, what was written, the rows that say what, the verdicts and
-/// whether they are what the conditions say, the conditions before and after, halt, taken.
+/// whether they are what the conditions say, the conditions before and after, halt, taken, and those of
+/// filling and checking in one call.
 fn of_a_batch(cpi: usize) -> u64 {
-    8 + of_a_house_verdict(cpi)
+    8 + OF_BOTH_AT_ONCE + of_a_house_verdict(cpi)
 }
+
+/// Comparisons that `at_once` makes.
+pub const OF_BOTH_AT_ONCE: u64 = 2;
 
 /// Cycles asked of a larger batch, for each asks for bits in all of it.
 const CYCLES_ASKED: usize = 8;
@@ -222,6 +228,7 @@ fn fills(
     let verdict = judge.judge_house(tally, &mut batch, place);
     let as_met = || format!("{}, accepted where all conditions are met", place());
     tally.same(as_met, verdict.relation().is_none(), accepted);
+    at_once(tally, numbers, &batch, verdict, place);
 
     let bit = |column: usize, d: usize| batch.z[column * cpi + d].0 == 1;
     let halt: Vec<bool> = (0..cpi).map(|d| bit(HALT, d)).collect();
@@ -231,6 +238,32 @@ fn fills(
     let taken: Vec<bool> = comparing().map(|d| bit(TAKEN, d)).collect();
     let right = comparing().map(|d| cycles[d].takes()).collect();
     tally.same(|| format!("{}, taken", place()), taken, right);
+}
+
+/// A filled batch with anything else in its derived columns, filled and checked in one call: it is
+/// filled again, and the verdict on it is the same.
+pub fn at_once(
+    tally: &mut Tally,
+    numbers: &mut Numbers,
+    batch: &Batch,
+    verdict: Verdict,
+    place: &dyn Fn() -> String,
+) {
+    let cpi = batch.cpi;
+    let mut words = Lent::of(batch.words.words());
+    for column in derived() {
+        for cycle in 0..cpi {
+            let at = 2 * batch_column(cpi, column, cycle);
+            let anything = batches::element(numbers);
+            words.words_mut()[at] = anything as u64;
+            words.words_mut()[at + 1] = (anything >> 64) as u64;
+        }
+    }
+    let answer = product::fill_and_check(cpi, words.words_mut());
+    let both = || format!("{}, filled and checked in one call", place());
+    tally.same(both, answer, verdict.number());
+    let left = || format!("{}, and what is left of it", place());
+    tally.same(left, words.first_wrong(), None);
 }
 
 fn ask(batch: &Batch, cycles: &[usize]) -> Vec<u64> {

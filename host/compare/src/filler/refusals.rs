@@ -14,8 +14,8 @@ use crate::verdict::lent::Lent;
 
 const GIVEN: usize = WITNESS_COLUMNS - DERIVED;
 
-/// Comparisons of one refusal: both answers, and the batch as it came.
-const OF_A_REFUSAL: u64 = 3;
+/// Comparisons of one refusal: the three answers, and the batch as it came.
+const OF_A_REFUSAL: u64 = 4;
 
 /// Smallest above 1, high word alone, both words, all ones.
 const ABOVE_ONE: [u128; 6] = [2, 3, 1 << 64, (1 << 64) + 1, 1 << 127, u128::MAX];
@@ -54,7 +54,7 @@ pub fn tests() -> Vec<Test> {
         ),
         test(
             "filling and conditions, derived columns above 1 are no refusal",
-            (DERIVED * ABOVE_ONE.len()) as u64 * 3,
+            (DERIVED * ABOVE_ONE.len()) as u64 * 4,
             each_derived_column,
         ),
         test(
@@ -78,7 +78,7 @@ fn batch(numbers: &mut Numbers, cpi: usize) -> (Batch, Vec<Cycle>, u128) {
     (batch_of(numbers, &cycles, output), cycles, output)
 }
 
-/// Both turn it down alike; the cycle, which is wrong too, is asked for later.
+/// All turn it down alike; the cycle, which is wrong too, is asked for later.
 fn refused(
     tally: &mut Tally,
     cpi: usize,
@@ -89,6 +89,8 @@ fn refused(
     let seen = product::first_unmet(cpi, batch.words(), usize::MAX);
     tally.same(place, seen, right.answer());
     tally.same(place, product::fill(cpi, batch.words_mut()), right.answer());
+    let at_once = product::fill_and_check(cpi, batch.words_mut());
+    tally.same(place, at_once, right.answer());
     let unchanged = || format!("{}, batch unchanged", place());
     tally.same(unchanged, batch.is_right(), true);
 }
@@ -139,7 +141,12 @@ fn each_derived_column(tally: &mut Tally) {
             let place = || format!("column {column} is {value:#x}");
             let seen = product::first_unmet(1, batch.words.words(), 0);
             tally.same(place, seen, cycles[0].first_unmet(output));
+            let mut at_once = Lent::of(batch.words.words());
             fill(tally, &mut batch, &place);
+            let right = (product::check_house(1, batch.words.words()), true);
+            let seen = product::fill_and_check(1, at_once.words_mut());
+            let filled = at_once.words() == batch.words.words();
+            tally.same(place, (seen, filled), right);
         }
     });
 }

@@ -1,6 +1,8 @@
 //! The numbers that the check, the sums, the bit test and the filler answer with, as the boundary
 //! writes them.
 
+pub use product::Refusal;
+
 use crate::house::Relation;
 
 const FAILED: u64 = 1 << 62;
@@ -20,6 +22,8 @@ pub const TERM_ORDER: u64 = 10;
 pub const GIVEN_BIT: u64 = 11;
 pub const ONE: u64 = 12;
 pub const ROW_SOUGHT: u64 = 13;
+/// A column, or on the way back a batch column or a batch row.
+pub const COLUMN: u64 = 14;
 pub const CYCLE: u64 = 15;
 
 /// Which rows were tested and what came of it.
@@ -53,19 +57,6 @@ impl Verdict {
             Verdict::Accepted { .. } => None,
             Verdict::Failed { relation, .. } => Some(relation),
         }
-    }
-}
-
-/// A question answered with no, and where.
-#[derive(Clone, Copy, Debug, PartialEq, Eq)]
-pub struct Refusal {
-    pub number: u64,
-    pub place: usize,
-}
-
-impl Refusal {
-    pub fn answer(self) -> u64 {
-        REFUSED | self.number << 32 | self.place as u64
     }
 }
 

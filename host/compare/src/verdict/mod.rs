@@ -1,4 +1,4 @@
-//! The check, the sums of a row, the bit test and the listing reader.
+//! The check, the sums of a row, the bit test, the listing reader and the search for a row.
 
 pub mod answer;
 mod any_listing;
@@ -21,6 +21,7 @@ mod pool;
 pub mod programs;
 mod reader;
 mod refusals;
+mod search;
 mod sums;
 
 use crate::report::Test;
@@ -37,6 +38,7 @@ pub fn tests() -> Vec<Test> {
     tests.extend(sums::tests());
     tests.extend(bits::tests());
     tests.extend(reader::tests());
+    tests.extend(search::tests());
     tests
 }
 

@@ -3,6 +3,7 @@
 
 use std::array::from_fn;
 use std::collections::BTreeMap;
+use std::ops::Range;
 
 use super::answer::{
     refusal, Refusal, LISTING_LENGTH, MARK_ORDER, MUST_BE_ZERO, NO_MARK, NO_ROOM, ROW_SOUGHT,
@@ -18,8 +19,11 @@ use crate::numbers::Numbers;
 use crate::parallel::in_parts;
 use crate::report::{test, Tally, Test};
 
-/// Start, end and position of two rows.
-const OUT_WORDS: usize = 6;
+/// Start, end, a word of the part and position of two rows.
+const OUT_WORDS: usize = 8;
+
+/// What is written for a word past the end of a part.
+const PAST: u64 = 1 << 63;
 
 const ROWS: usize = BIN_ROWS + FLD_ROWS;
 
@@ -61,6 +65,11 @@ pub fn tests() -> Vec<Test> {
             "reader, each row of the house listing after each other and after itself",
             (ROWS * ROWS) as u64 * OF_A_CALL,
             each_pair,
+        ),
+        test(
+            "reader, each word of each row of the house listing",
+            each_word_calls() as u64 * OF_A_CALL,
+            each_word,
         ),
         test(
             "reader, rows that are not there before and after each that is, 13",
@@ -161,24 +170,39 @@ impl Desk {
         Lent::of(&anything)
     }
 
-    fn call(&mut self, marks: [Mark; 2], out: &mut Lent<u64>) -> u64 {
+    fn call(&mut self, marks: [Mark; 2], i: usize, out: &mut Lent<u64>) -> u64 {
         let [first, next] = marks.map(|mark| asked_for(&mut self.numbers, mark));
-        product::reader(self.listing.words(), first, next, out.words_mut())
+        product::reader(self.listing.words(), first, next, i, out.words_mut())
     }
 
-    /// One call: the opening, both parts, six words of `out`, and all else lent as it came.
+    /// Words of a row's part, 0 for a row that is not there.
+    fn words_of(&self, mark: Mark) -> usize {
+        self.parts.get(&mark).map_or(0, |part| part.words.len())
+    }
+
+    /// One call for any word of the two parts, or for one past their ends.
     fn asks(&mut self, tally: &mut Tally, marks: [Mark; 2]) {
+        let words = marks.map(|mark| self.words_of(mark)).into_iter().max();
+        let i = match self.numbers.below(16) {
+            0 => self.numbers.next(),
+            _ => self.numbers.below(words.unwrap_or(0) as u64 + 2),
+        };
+        self.asks_word(tally, marks, i as usize);
+    }
+
+    /// One call: the opening, both parts, eight words of `out`, and all else lent as it came.
+    fn asks_word(&mut self, tally: &mut Tally, marks: [Mark; 2], i: usize) {
         let words = self.listing.len();
-        let place = || format!("{words} words, {marks:?}");
+        let place = || format!("{words} words, {marks:?}, word {i}");
         let longer = self.numbers.below(4) as usize;
         let mut out = self.lend_out(OUT_WORDS + longer);
-        for (i, word) in self.right_words(marks).into_iter().enumerate() {
-            out.must_become(i, word);
+        for (at, word) in self.right_words(marks, i).into_iter().enumerate() {
+            out.must_become(at, word);
         }
-        let answer = self.call(marks, &mut out);
+        let answer = self.call(marks, i, &mut out);
         tally.same(place, answer, self.opening);
         let written = out.words();
-        let found = [0, 3].map(|i| self.words_between(written[i], written[i + 1]));
+        let found = [0, 4].map(|i| self.words_between(written[i], written[i + 1]));
         let parts = marks.map(|mark| self.parts.get(&mark).map(|part| &part.words[..]));
         tally.same(|| format!("{}, their words", place()), found, parts);
         let wrong = || format!("{}, first wrong word of out", place());
@@ -187,17 +211,19 @@ impl Desk {
         tally.same(listing, self.listing.is_right(), true);
     }
 
-    /// Of each row its start, its end and the position afterwards; a refusal keeps the position.
-    fn right_words(&self, marks: [Mark; 2]) -> Vec<u64> {
+    /// Of each row its start, its end, word i of its part and the position afterwards; a refusal keeps
+    /// the position, and has no words.
+    fn right_words(&self, marks: [Mark; 2], i: usize) -> Vec<u64> {
         let mut words = Vec::new();
         let mut position = 0;
         for mark in marks {
             match self.parts.get(&mark) {
                 Some(part) => {
                     position = part.end() as u64;
-                    words.extend([part.start as u64, position, position]);
+                    let word = part.words.get(i).map_or(PAST, |&word| word.into());
+                    words.extend([part.start as u64, position, word, position]);
                 }
-                None => words.extend([refusal(ROW_SOUGHT).answer(), 0, position]),
+                None => words.extend([refusal(ROW_SOUGHT).answer(), 0, PAST, position]),
             }
         }
         words
@@ -220,7 +246,7 @@ fn house_marks() -> Vec<Mark> {
     Listing::of_circuit().marks()
 }
 
-fn missing() -> Vec<Mark> {
+pub fn missing() -> Vec<Mark> {
     let bin = (BIN_ROWS..512).chain(TOO_LARGE);
     let fld = [FLD_ROWS]
         .into_iter()
@@ -238,6 +264,34 @@ fn each_pair(tally: &mut Tally) {
             desk.asks(tally, [marks[part], next]);
         }
     });
+}
+
+/// Words asked for of two rows: each of the longer one's, and the index past it.
+fn words_asked(desk: &Desk, marks: [Mark; 2]) -> Range<usize> {
+    let [first, next] = marks.map(|mark| desk.words_of(mark));
+    0..first.max(next) + 1
+}
+
+/// Each row before the next one.
+fn neighbours() -> Vec<[Mark; 2]> {
+    let marks = house_marks();
+    let next = |i: usize| marks[(i + 1) % marks.len()];
+    (0..marks.len()).map(|i| [marks[i], next(i)]).collect()
+}
+
+fn each_word_calls() -> usize {
+    let desk = Desk::of_house(Numbers::for_test(52));
+    let calls = |marks| words_asked(&desk, marks).len();
+    neighbours().into_iter().map(calls).sum()
+}
+
+fn each_word(tally: &mut Tally) {
+    let mut desk = Desk::of_house(Numbers::for_test(52));
+    for marks in neighbours() {
+        for i in words_asked(&desk, marks) {
+            desk.asks_word(tally, marks, i);
+        }
+    }
 }
 
 fn rows_missing(tally: &mut Tally) {
@@ -366,7 +420,7 @@ fn out_too_short(tally: &mut Tally) {
         for marks in [there, not_there] {
             for words in 0..OUT_WORDS {
                 let mut out = desk.lend_out(words);
-                let answer = desk.call(marks, &mut out);
+                let answer = desk.call(marks, words, &mut out);
                 let place = || format!("out of {words} words, {marks:?}");
                 tally.same(place, answer, NO_ROOM);
                 tally.same(place, out.first_wrong(), None);

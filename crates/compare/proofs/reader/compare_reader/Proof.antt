@@ -18,9 +18,9 @@ rows c =
     let w = c .before .before .before in let r = w .before .before in let k = r .before in let i = k .before .before in
     let a = i .before .before .before .args in
     ap₂ reply (c .asked-number .ensures) (w .write-rows .ensures)
-    ∙ ap (λ t. reply (askedNumber (t .asked)) (rowWords t ++ drop 6 (now (a .out))))
+    ∙ ap (λ t. reply (askedNumber (t .asked)) (rowWords t ++ drop 8 (now (a .out))))
     (r .two-rows .ensures
-    ∙ ap₂ (λ first second. twoRows (now (a .listing)) first (a .row) second (a .next-row)) (k .before .chosen-relation .ensures) (k .chosen-relation2 .ensures))
+    ∙ ap₂ (λ first second. twoRows (now (a .listing)) first (a .row) second (a .next-row) (a .i)) (k .before .chosen-relation .ensures) (k .chosen-relation2 .ensures))
     ∙ refused _ _ _ (le-ltb _ _ (i .if1 .left))
 
 pub compare-reader-spec : {M : Type 1} → statement M

@@ -2,6 +2,7 @@
 //! where the original is not at hand. Refusals, which the original does not have, are document 01's.
 
 mod makers;
+mod wrong;
 
 use magnetar_cpu::circuit::{
     assemble_instance_z, build_circuit_batched, check_row, witness_row, CircuitSpec, WITNESS_LAYOUT,
@@ -57,6 +58,9 @@ fn main() {
     makers::rows();
     makers::batches();
     makers::branches();
+    println!("# From here on one number of each line is not the original's, or the batch that is set up not the one that is made: none is as it should be.");
+    wrong::lines();
+    makers::wrong();
 }
 
 fn field() {
@@ -231,8 +235,13 @@ fn put(column: usize, element: Gf128) {
     println!("s {column:x} {}", words(element.0));
 }
 
-/// The original's verdict, and the first row of its matrices that does not hold.
 fn verdict(spec: &CircuitSpec, z: &[Gf128], cpi: usize) {
+    let [cpi, kind, row, rows] = judged(spec, z, cpi);
+    println!("k {cpi:x} {kind:x} {row:x} {rows:x}");
+}
+
+/// The original's verdict, and the first row of its matrices that does not hold: the numbers of a line k.
+fn judged(spec: &CircuitSpec, z: &[Gf128], cpi: usize) -> [u64; 4] {
     let bin = first_failing([&spec.a_bin, &spec.b_bin, &spec.c_bin], z);
     let fld = first_failing([&spec.a_fld, &spec.b_fld, &spec.c_fld], z);
     let said = check_row(spec, z).err();
@@ -246,7 +255,7 @@ fn verdict(spec: &CircuitSpec, z: &[Gf128], cpi: usize) {
         [None, Some("bin"), Some("fld")][kind],
         "the original's check and its matrices disagree"
     );
-    println!("k {cpi:x} {kind:x} {row:x} {rows:x}");
+    [cpi, kind, row, rows].map(|number| number as u64)
 }
 
 fn first_failing([a, b, c]: [&SparseMatrix; 3], z: &[Gf128]) -> Option<usize> {

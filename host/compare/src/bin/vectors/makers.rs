@@ -109,6 +109,27 @@ fn assembled(numbers: &mut Numbers, cpi: usize, values: usize) {
     println!("j {cpi:x} {cycles:x} {:x} {batch:x} 0", 2 * values);
 }
 
+/// A row and a batch that are made beside one that differs in a column; refusals with other numbers.
+pub fn wrong() {
+    let trace = execute(&PROGRAM, &[INPUT], 64);
+    let record = &trace.records[0];
+    let rom = &trace.program.rows[record.micro_pc].row;
+    set_up(&witness_row(record, rom, &[]), 1);
+    println!("Z");
+    lend(0, &[record_words(record), rom_words(rom)].concat());
+    put(2047, Gf128(1));
+    println!("v 0 {ROW_WORDS:x} 0");
+    println!("v 0 {:x} {:x}", ROW_WORDS - 1, REFUSED + 3);
+    println!("v 1 {ROW_WORDS:x} {:x}", REFUSED + 2);
+
+    println!("Z");
+    println!("0");
+    put(WITNESS_LAYOUT::W_COLS, Gf128(2));
+    println!("j 1 1000 0 {ROW_WORDS:x} 0");
+    println!("j 3 1000 0 {ROW_WORDS:x} {:x}", REFUSED + 2);
+    println!("j 1 0 0 {ROW_WORDS:x} {:x}", REFUSED + 3);
+}
+
 pub fn branches() {
     let mut numbers = Numbers(0xb4a2);
     let edges = [0, 1, (1 << 63) - 1, 1 << 63, u64::MAX];

@@ -1,0 +1,17 @@
+-- The number of what the call gives.
+use mathlib.Core.Path.{ap, _∙_}
+use borrow.Author.Needs.{needs}
+use denote.Ref.{now}
+use Rattle.circuit.specs.Reader.{rowRead}
+use Rattle.compare.specs.Numbers.{foundNumber}
+use Rattle.compare.proofs.search.compare_read_row.Statement.{statement}
+use Rattle.compare.proofs.search.compare_read_row.Tie as tie
+
+number : tie.Need-returns
+number c =
+    let f = c .before in let r = f .before in let a = r .before .before .args in
+    c .found-number .ensures
+    ∙ ap (foundNumber (a .part)) (f .read-row .ensures ∙ ap (λ rel. rowRead (now (a .listing)) rel (a .row)) (r .chosen-relation .ensures))
+
+pub compare-read-row-spec : {M : Type 1} → statement M
+compare-read-row-spec = tie.close (tie.spec (λ c κs. search needs) (λ c κs. search needs) (λ c κs. search needs) number)

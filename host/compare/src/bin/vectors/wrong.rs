@@ -1,0 +1,71 @@
+//! Lines with a number that is not the original's answer, so that a replay which calls every line right is
+//! seen to be wrong.
+
+use std::fmt::Write;
+use std::ops::Range;
+
+use magnetar_cpu::circuit::{build_circuit_batched, WITNESS_LAYOUT};
+use magnetar_field::{mul, Gf128, ONE};
+
+use crate::{accepted_batches, judged, put, set_up, REFUSED};
+
+pub fn lines() {
+    field();
+    columns();
+    checks();
+    for read in [0, 2] {
+        println!("t 63 0 5 5 {read:x}");
+    }
+    changed("t", &[0x33, 0, 5, 5, 0], 4..5);
+}
+
+/// The line with one answer after the other changed in its lowest bit.
+fn changed(letter: &str, numbers: &[u64], answers: Range<usize>) {
+    for at in answers {
+        let mut line = letter.to_string();
+        for (i, number) in numbers.iter().enumerate() {
+            let number = number ^ u64::from(i == at);
+            write!(line, " {number:x}").expect("a string takes it");
+        }
+        println!("{line}");
+    }
+}
+
+fn field() {
+    let (a, b) = (0xfeed << 80 | 3, 5 << 70 | 7);
+    let halves = |element: u128| [element as u64, (element >> 64) as u64];
+    let operands = [halves(a), halves(b)].concat();
+    let product = halves(mul(Gf128(a), Gf128(b)).0);
+    changed("m", &[&operands[..], &product].concat(), 4..6);
+    let sum = halves((Gf128(a) + Gf128(b)).0);
+    changed("a", &[&operands[..], &sum].concat(), 4..6);
+    let moved = halves(a << 7);
+    changed("l", &[&halves(a)[..], &[7], &moved].concat(), 3..5);
+}
+
+fn columns() {
+    let geo = WITNESS_LAYOUT::geometry(4);
+    let parts = [4, geo.w_cols, geo.m, geo.one_col, geo.w128];
+    changed("g", &parts.map(|part| part as u64), 1..5);
+    changed("g", &[3, REFUSED + 1, 0, 0, 0], 1..2);
+    for letter in ["c", "z"] {
+        changed(letter, &[4, 5, 2, geo.map_col(5, 2) as u64], 3..4);
+        changed(letter, &[4, 4096, 2, REFUSED + 14], 3..4);
+    }
+    changed("b", &[4, geo.map_col(5, 2) as u64, 5, 2], 2..4);
+    changed("b", &[4, geo.one_col as u64, REFUSED + 14, 0], 2..3);
+}
+
+/// An accepted batch, and the same with a bit that is wrong.
+fn checks() {
+    let spec = build_circuit_batched(1);
+    let mut z = accepted_batches(1).swap_remove(0);
+    set_up(&z, 1);
+    let [_, kind, _, rows] = judged(&spec, &z, 1);
+    // The row of a batch that is accepted is not looked at.
+    changed("k", &[1, kind, 0, rows], 1..2);
+    changed("k", &[1, kind, 0, rows], 3..4);
+    z[0] = z[0] + ONE;
+    put(0, z[0]);
+    changed("k", &judged(&spec, &z, 1), 1..4);
+}
