@@ -5,7 +5,7 @@ use std::ops::Range;
 
 use super::conditions::CONDITIONS;
 use super::cycles::Wanted;
-use super::filled::{batch_of, fill, output};
+use super::filled::{at_once, batch_of, fill, output, OF_BOTH_AT_ONCE};
 use crate::columns::SIZES;
 use crate::house::Relation;
 use crate::numbers::Numbers;
@@ -27,7 +27,7 @@ const OTHERS: u64 = 4;
 pub fn tests() -> Vec<Test> {
     let of_size = |(cpi, times)| {
         let batches = times * CYCLES * CONDITIONS;
-        let of_a_batch = OF_A_VERDICT + boundary::compared(cpi) + OTHERS;
+        let of_a_batch = OF_A_VERDICT + boundary::compared(cpi) + OF_BOTH_AT_ONCE + OTHERS;
         test(
             format!("each condition broken in the first, a middle and the last cycle, {batches} batches of {cpi}"),
             batches as u64 * of_a_batch,
@@ -88,6 +88,8 @@ fn breaks(
     let mut desk = Desk::of(&judge.listing, numbers);
     let verdict = judge.judge(tally, &mut desk, &mut batch, place);
     boundary::same(tally, &mut batch, verdict, place);
+    let mut numbers = Numbers::for_part(79, (cpi << 16 | cycle << 8 | k) as u64);
+    at_once(tally, &mut numbers, &batch, verdict, place);
     let fails = || format!("{}, fails in a row of it: {verdict:?}", place());
     tally.same(fails, is_in(verdict, cycle, rows_of(k)), true);
 }
