@@ -58,7 +58,9 @@ pub record Four : Type 0 where
   pub fld : unmappedRow 4 Fld 65 ≡ At 2 1
   pub bin-end : unmappedRow 4 Bin 2048 ≡ Refused (no 14 0)
   pub fld-end : unmappedRow 4 Fld 128 ≡ Refused (no 14 0)
+  -- three cycles are no batch
+  pub no-size : unmappedRow 3 Bin 0 ≡ Refused (no 1 0)
 
 pub four : Four
 unfolding allowed unmappedRow
-four = record { bin = refl; fld = refl; bin-end = refl; fld-end = refl }
+four = record { bin = refl; fld = refl; bin-end = refl; fld-end = refl; no-size = refl }

@@ -1,13 +1,12 @@
 -- The definitions met by examples: a cycle that is judged with yes, and cycles close to it that are judged with no; the same of packed words;
 -- which columns are named; and of every size a batch whose cycles are all judged with yes.
 -- Assumes nothing.
-use mathlib.Core.Path.{_≡_, refl, sym, subst, _∙_}
+use mathlib.Core.Path.{_≡_, refl}
 use mathlib.Core.Bool.{Bool, true, false}
 use mathlib.Core.List.{List, [], _∷_, _++_}
 use Prim.Native.Nat.{ℕ, _+_, _*_, _-_, _^_, _<_}
 use lib.ListN.{getD, set, drop, replicate}
-use Rattle.field.specs.Gf.{ofWords, zero}
-use Rattle.field.specs.Gf.Laws.{words-zero}
+use Rattle.field.specs.Gf.{zero}
 use Rattle.field.specs.Sums.{val}
 use Rattle.layout.specs.Columns.{ONE-COL, RS1, SHIFT-OUT, HALT, IS-SHIFT}
 use Rattle.layout.specs.Batch.{allowed}
@@ -17,16 +16,13 @@ use Rattle.circuit.specs.Circuit.{binFamilies, fldFamilies, circuitRows, circui
 use Rattle.verdict.specs.declared.Verdict.the-variants.{Accepted}
 use Rattle.verdict.specs.Depends as depends
 use Rattle.verdict.specs.Check.{judged}
-use Rattle.verdict.specs.Row.{cycleOf}
-use Rattle.step.specs.Words.{bitsOf}
-use Rattle.step.specs.Step.{Step}
 use Rattle.step.specs.Filling.{filled}
-use Rattle.step.specs.Demand3.{Premises}
 use Rattle.step.specs.Fill.Derive.{carryWord, runWord, laneWord, compareWord, branchWord, takenBit}
 use Rattle.step.specs.Met.{conditions, byteOf}
 use Rattle.step.specs.Ones.{has}
-use Rattle.step.specs.Sheet.{derivedOnes, calm}
-use Rattle.step.specs.Chosen.{batchOf, all-bits-of, cycle-is, premises-of}
+use Rattle.step.specs.Sheet.{derivedOnes}
+use Rattle.step.specs.Chosen.{premises-of}
+use Rattle.step.specs.Clauses.{idle, idle-meets}
 use Rattle.judge.specs.Judged.{judgedCycle, JudgedYes}
 use Rattle.judge.specs.Words.{judgedWords, allJudged}
 use Rattle.judge.specs.Judges.{OverBits, judges}
@@ -83,25 +79,9 @@ pub named-examples : NamedExamples
 unfolding named namedColumns depends.named circuitRows binFamilies fldFamilies from fromEach joined numbered
 named-examples = record { some = (refl, refl); none = (refl, (refl, refl)) }
 
--- ---- of every size, a batch in which only the one column is 1, and the filler's of it
-
-abbrev pub idle : ℕ → List ℕ
-idle cpi = batchOf cpi (λ d c. false)
+-- ---- of every size, the idle batch, in which only the one column is 1, and the filler's of it
 
 module _ (cpi : ℕ) (some : 0 < cpi) where
-  pub idle-premises : Premises cpi (idle cpi)
-  idle-premises = premises-of cpi some (λ d c. false)
-
-  output-is : (d : ℕ) → d < cpi → cycleOf cpi (idle cpi) d (ONE-COL + 1) ≡ ofWords 0 0
-  output-is d l = cycle-is cpi some (λ d c. false) d l (ONE-COL + 1) ∙ sym words-zero
-
-  pub idle-meets : (d : ℕ) → d < cpi → Step (bitsOf cpi (idle cpi) d) (cycleOf cpi (idle cpi) d (ONE-COL + 1))
-  unfolding val
-  idle-meets d l =
-      subst (Step (bitsOf cpi (idle cpi) d)) (sym (output-is d l))
-      (subst (λ (b : ℕ → Bool). Step b (ofWords 0 0)) (sym (all-bits-of cpi some (λ d c. false) d l))
-      (calm _ 0 refl refl refl refl refl refl refl refl refl refl (λ _. refl)))
-
   pub record BatchExamples : Type 0 where
     pub over : OverBits cpi (filled cpi (idle cpi))
     pub yes : JudgedYes cpi (filled cpi (idle cpi))
@@ -110,7 +90,7 @@ module _ (cpi : ℕ) (some : 0 < cpi) where
 
   pub batch-examples : BatchExamples
   batch-examples =
-      let over = filled-over cpi some (idle cpi) idle-premises in let yes = judges-filled cpi some (idle cpi) idle-premises .1 idle-meets in
+      let over = filled-over cpi some (idle cpi) (premises-of cpi some (λ d c. false)) in let yes = judges-filled cpi some (idle cpi) (premises-of cpi some (λ d c. false)) .1 (idle-meets cpi some) in
       let accepted : allowed cpi ≡ true → judged cpi circuitWords (filled cpi (idle cpi)) ≡ Accepted (514 * cpi) =
       λ size. judges cpi size (filled cpi (idle cpi)) over .0 yes in
       record { over = over; yes = yes; accepted = accepted; short = λ size. short-over cpi (filled cpi (idle cpi)) size over .1 (accepted size) }

@@ -43,8 +43,8 @@ pub fn check_row(cpi: usize, listing: &[u32], batch: &[u64], scratch: &mut [u64]
     verdict::check_row(cpi, listing, batch, scratch)
 }
 
-// Fills a batch and checks it against the house listing: the filler's questions, 1, 2, 11 and 12; a no leaves the batch as it came. Demand 3 as a
-// promise of code: accepted exactly when every cycle meets the ten step conditions, whatever stood in the derived columns.
+// Fills a batch and checks it against the house listing: the filler's questions, 1, 2, 11 and 12; a no leaves the batch as it came. What demand 3
+// says of acceptance is its promise: accepted exactly when every cycle meets the ten step conditions, whatever stood in the derived columns.
 pub fn fill_and_check(cpi: usize, batch: &mut [u64]) -> CheckAnswer
     ensures { λ r. ⌜ Promised cpi (now (batch .entry)) r (now (batch .exit)) ⌝ }
 {

@@ -24,10 +24,10 @@ use Rattle.step.specs.Branch.{branchHolds}
 use Rattle.step.specs.Derived.{derived}
 use Rattle.step.specs.Given.{SameGiven, same-word}
 use Rattle.step.specs.Filling.{fillerBits, filled}
-use Rattle.step.specs.Batch.{same-given, of-bits}
+use Rattle.step.specs.Batch.{of-bits}
 use Rattle.step.specs.Demand3.{Premises, accepts, Compares}
 use Rattle.step.specs.Proved.{demand3}
-use Rattle.step.specs.Chosen.{batchOf, withOne, all-bits-of, premises-of}
+use Rattle.step.specs.Chosen.{batchOf, withOne, all-bits-of, premises-of, filled-given}
 use Rattle.step.specs.BranchRow.{branchBits, rs1-is, rs2-is, t1-is, t2-is, opcode-is, funct3-is, subtract-is, arithmetic-is, branch-steps}
 
 -- what `Compares` asks for, in numbers, and nothing more: T1 is RS1, T2 the complement of RS2, subtract and arithmetic are set
@@ -89,8 +89,7 @@ module _ (cpi : ℕ) (size : allowed cpi ≡ true) (f x y : ℕ) (lf : f < 8) (l
     chosen = all-bits-of cpi some (λ d. branchBits f x y) d l
 
     given : SameGiven b z
-    unfolding filled
-    given c e = same-given cpi some batch p (fillerBits cpi batch) d l c e ∙ ap (λ (g : ℕ → Bool). g c) chosen
+    given = filled-given cpi some (λ d. branchBits f x y) d l
 
     holds-branch : Branches b f x y
     unfolding derived

@@ -20,8 +20,10 @@ use Rattle.layout.specs.Mapping.{witness-column, public-column}
 use Rattle.verdict.specs.Row.{elementAt, cycleOf}
 use Rattle.verdict.specs.Sheet.{zeros}
 use Rattle.step.specs.Words.{bitsOf}
-use Rattle.step.specs.Filling.{NotDerived, put, putEach}
+use Rattle.step.specs.Given.{SameGiven}
+use Rattle.step.specs.Filling.{NotDerived, put, putEach, fillerBits, filled}
 use Rattle.step.specs.Placed.{put-length, put-here, put-elsewhere, each-length, each-here, each-other, each-word, not-derived}
+use Rattle.step.specs.Batch.{same-given}
 use Rattle.step.specs.Demand3.{Premises}
 
 -- bit b d c put into column c of cycle d, for all of them, 1 into the one column, and 0 into the public elements after it. (Batch column x is
@@ -71,7 +73,7 @@ module _ (cpi : ℕ) (some : 0 < cpi) (b : ℕ → ℕ → Bool) where
       ∙ ap₂ ofWords (zeros (8192 * cpi) (2 * x)) (zeros (8192 * cpi) (2 * x + 1)) ∙ words-zero
 
   -- so every element is a bit
-  is-bit : (x : ℕ) → (k : Bool) × (elementAt (batchOf cpi b) x ≡ bitOf k)
+  pub is-bit : (x : ℕ) → (k : Bool) × (elementAt (batchOf cpi b) x ≡ bitOf k)
   is-bit x = go (ltb x (2048 * cpi)) (eqb x (2048 * cpi)) refl refl
     where
       go : (i j : Bool) → ltb x (2048 * cpi) ≡ i → eqb x (2048 * cpi) ≡ j → (k : Bool) × (elementAt (batchOf cpi b) x ≡ bitOf k)
@@ -131,7 +133,14 @@ module _ (cpi : ℕ) (some : 0 < cpi) (b : ℕ → ℕ → Bool) where
         one-is = at-one;
       }
 
--- ---- nor do the premises ask anything of the derived and the public columns: whatever else stands there, as words, they are met
+  -- so does its filling, in the given columns
+  pub filled-given : (d : ℕ) → d < cpi → SameGiven (bitsOf cpi (filled cpi (batchOf cpi b)) d) (withOne (b d))
+  unfolding filled
+  filled-given d l c e =
+      same-given cpi some (batchOf cpi b) premises-of (fillerBits cpi (batchOf cpi b)) d l c e ∙ ap (λ (f : ℕ → Bool). f c) (all-bits-of d l)
+
+-- ---- nor do the premises ask anything of the derived columns and of the public ones behind the one column: whatever else stands there, as words,
+-- they are met
 
 pub premises-whatever : (cpi : ℕ) (u w : List ℕ) → Premises cpi w → length u ≡ length w → ((i : ℕ) → getD u i 0 < 2 ^ 64)
     → ((x : ℕ) → x ≤ 2048 * cpi → NotDerived cpi x → elementAt u x ≡ elementAt w x) → Premises cpi u

@@ -1,5 +1,6 @@
 -- The filler as it is called: questions 1, 2, 11 and 12, and where all are answered with yes the filling that demand 3 speaks of. It is worked
--- out by words: Words says which, and the theorem is `all-cycles` of Cycles. Answers says what a yes means.
+-- out by words: Words says which, and the theorem is `all-cycles` of Cycles. Answers says what a yes means, Refusals has
+-- given batches that are refused.
 -- Assumes nothing.
 pub mod Bits
 pub mod Fields
@@ -15,6 +16,7 @@ pub mod Words
 pub mod Cycle
 pub mod Cycles
 pub mod Answers
+pub mod Refusals
 pub mod Loops
 use mathlib.Core.Bool.{Bool, cond, not, _&&_}
 use mathlib.Core.List.{List}

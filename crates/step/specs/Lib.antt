@@ -12,7 +12,7 @@
 -- and the theorems are `demand3` of Proved, `filler-alone` of Alone, `all-fillings` of Count, `demand3-of-fill` of Fill.Answers, `meets-all` and
 -- `answer-meets` of Met.First and, of the bench sheet's P6 to P9, `sheet` of Sheet. That demand 3's own words say no less than they should and
 -- ask no more: `answers` of Answers (accepted, fails), `premises-of` and `premises-whatever` of Chosen (the premises), `compares-exactly`,
--- `every-branch` and `each-funct3` of Branches (the taken clause).
+-- `every-branch` and `each-funct3` of Branches (the taken clause), `at-work` of Clauses (the others); of its refusals `refuses` of Fill.Refusals.
 -- The way there, from the ground up:
 -- words of any width (Cases, Numbers, Adder, Compare, Chain); Theorem U (Solvable, Unique, Determining); Theorem C (Determined,
 -- Conditions, Taken, Given); from the field to bits (BinRows, FieldSums, FieldRows, Cycle); the batch (Placed, Count, Batch); the check (Listings,
@@ -58,3 +58,4 @@ pub mod Chosen
 pub mod FieldBits
 pub mod BranchRow
 pub mod Branches
+pub mod Clauses

@@ -1,5 +1,6 @@
 -- Failing verdicts of every cycle, with their numbers written out: of a batch that is 0 but for one column of cycle d the check names the
--- row of that cycle, 512 · d or 32 · d further on, and counts 483 bin and 31 fld rows for each cycle before.
+-- row of that cycle, 512 · d or 32 · d further on. It counts the rows before: in bin 483 for each cycle before; in fld 483 for every cycle of the
+-- batch, and 31 for each before.
 -- Assumes nothing.
 use mathlib.Core.Path.{_≡_, refl, sym, ap, ap₂, subst, _∙_}
 use mathlib.Core.Bool.{Bool, true, false}

@@ -8,7 +8,7 @@ use mathlib.Core.List.{List, [], _∷_}
 use Prim.Native.Nat.{ℕ, _+_, _-_, _*_, _%_, _^_}
 use lib.Dec.{eqb}
 use Rattle.field.specs.Sums.{digit}
-use Rattle.layout.specs.Columns.{RS1, RS2, RD, LOAD-VAL, SHIFT-OUT, T1, T2, CARRY-OFF, ALU, SHIFT-SRC, STORE-OLD, STORE-SRC, SUB, WE, IS-LOAD, IS-STORE, IS-ARITH, HALT, IS-SHIFT, IS-LOGIC, LD-BYTE, LD-HALF, LD-WORD, TAKEN, OFF, RAM-ADDR, PC, FETCH-OP, FETCH-RD, FETCH-RS1, FETCH-RS2, FETCH-FUNCT3, FETCH-IMM, EQA, PA, EQB, PB, CA, CH, CH2, NH, WNL, ZERO, OPSYS, OPBR, EQFM, EQF, LTSA, LTSB, LTUA, LTUB, CEQ, CLT, CLU, ZE16, ZE8}
+use Rattle.layout.specs.Columns.{OP-BITS, IDX-BITS, FUNCT3-BITS, IMM-BITS, RS1, RS2, RD, LOAD-VAL, SHIFT-OUT, T1, T2, CARRY-OFF, ALU, SHIFT-SRC, STORE-OLD, STORE-SRC, SUB, WE, IS-LOAD, IS-STORE, IS-ARITH, HALT, IS-SHIFT, IS-LOGIC, LD-BYTE, LD-HALF, LD-WORD, TAKEN, OFF, RAM-ADDR, PC, FETCH-OP, FETCH-RD, FETCH-RS1, FETCH-RS2, FETCH-FUNCT3, FETCH-IMM, EQA, PA, EQB, PB, CA, CH, CH2, NH, WNL, ZERO, OPSYS, OPBR, EQFM, EQF, LTSA, LTSB, LTUA, LTUB, CEQ, CLT, CLU, ZE16, ZE8}
 use Rattle.step.specs.Words.{_⊻_}
 use Rattle.step.specs.Fill.Bits.{bitAt}
 use Rattle.step.specs.Fill.Blocks.{Block, block}
@@ -93,12 +93,12 @@ module _ (r : CycleRecord) (m : RomRow) where
 
   abbrev pub busGroup : List Block
   busGroup =
-      block FETCH-OP 7 (m .raw)
-      ∷ block FETCH-RD 6 (busRd (m .rd))
-      ∷ block FETCH-RS1 6 (m .rs1)
-      ∷ block FETCH-RS2 6 (m .rs2)
-      ∷ block FETCH-FUNCT3 3 (m .funct3)
-      ∷ block FETCH-IMM 13 (m .imm)
+      block FETCH-OP OP-BITS (m .raw)
+      ∷ block FETCH-RD IDX-BITS (busRd (m .rd))
+      ∷ block FETCH-RS1 IDX-BITS (m .rs1)
+      ∷ block FETCH-RS2 IDX-BITS (m .rs2)
+      ∷ block FETCH-FUNCT3 FUNCT3-BITS (m .funct3)
+      ∷ block FETCH-IMM IMM-BITS (m .imm)
       ∷ []
 
   abbrev pub laneGroup : List Block

@@ -1,16 +1,13 @@
 -- Filling and checking, of given batches: of every size one that is accepted, and one that fails by what stands in any one cycle; rows of the bench
 -- sheet with their verdicts; and calls that are refused.
 -- Assumes nothing.
-use mathlib.Core.Path.{_≡_, refl, sym, ap, subst, _∙_}
-use mathlib.Core.Bool.{Bool, true, false, _&&_}
+use mathlib.Core.Path.{_≡_, refl, sym, ap, _∙_}
+use mathlib.Core.Bool.{Bool, true, false}
 use mathlib.Core.List.{List, [], _∷_}
 use Prim.Native.Nat.{ℕ, _+_, _*_, _<_}
-use native.Mathlib.Omega.{arith}
-use borrow.Author.Tests.{eq-eqb}
-use lib.Dec.{eqb}
 use lib.ListN.{replicate, length-replicate}
-use Rattle.field.specs.Sums.{val}
-use Rattle.layout.specs.Columns.{ONE-COL, SHIFT-OUT, ALU, IS-STORE, IS-SHIFT}
+use Rattle.field.specs.Gf.{ofWords, isBit}
+use Rattle.layout.specs.Columns.{ALU, IS-STORE}
 use Rattle.layout.specs.declared.Asked.the-variants.{Yes}
 use Rattle.layout.specs.Batch.{allowed}
 use Rattle.layout.specs.Questions.{no}
@@ -20,30 +17,35 @@ use Rattle.verdict.specs.declared.Verdict.{Verdict}
 use Rattle.verdict.specs.declared.Verdict.the-variants.{Accepted, Failed}
 use Rattle.verdict.specs.declared.CheckAnswer.{CheckAnswer}
 use Rattle.verdict.specs.declared.CheckAnswer.the-variants.{Judged, Refused}
-use Rattle.verdict.specs.Row.{cycleOf}
 use Rattle.verdict.specs.Check.{Checked, houseChecked}
 use Rattle.verdict.specs.Agree.{house-agrees}
 use Rattle.verdict.specs.Sheet.{oneRow}
-use Rattle.step.specs.Words.{bitsOf}
-use Rattle.step.specs.Step.{Step}
+use Rattle.step.specs.Derived.{derived}
 use Rattle.step.specs.Filling.{filled}
 use Rattle.step.specs.Demand3.{fails}
-use Rattle.step.specs.Ones.{has, withOnes, withOutput}
+use Rattle.step.specs.Ones.{withOnes, withOutput}
 use Rattle.step.specs.Sheet.{addressOnes, sumOnes, systemOnes, Gives, sheet}
 use Rattle.step.specs.Fill.{fillAsked, Called, called}
 use Rattle.step.specs.Fill.Answers.{passes, passed-all}
-use Rattle.step.specs.Chosen.{batchOf, withOne, all-bits-of, premises-of}
-use Rattle.judge.specs.Examples.{idle, batch-examples}
-use Rattle.judge.specs.FillCheck.{FillChecked, answerAfter, fillChecked, EveryStep, Promised}
+use Rattle.step.specs.Fill.Refusals.{refuses}
+use Rattle.step.specs.Chosen.{batchOf, premises-of}
+use Rattle.step.specs.Clauses.{replaced, idle, shiftsIn, shift-meets-not}
+use Rattle.judge.specs.Examples.{batch-examples}
+use Rattle.judge.specs.FillCheck.{FillChecked, answerAfter, fillChecked, Promised}
 use Rattle.judge.specs.FillCheck.Laws.{is-judged, fill-promised}
 
--- cycle k alone shifts, and SHIFT_OUT is 1 where ALU is 0: condition 2 is not met there
-abbrev pub shiftsIn : ℕ → ℕ → ℕ → Bool
-shiftsIn k d c = eqb d k && has (SHIFT-OUT ∷ IS-SHIFT ∷ []) c
+-- a batch is refused with a number and a place, and stays as it came
+abbrev pub Refuses : ℕ → ℕ → ℕ → List ℕ → Type 0
+Refuses cpi k place batch = fillChecked cpi batch ≡ record { answer = Refused (no k place); batch = batch }
 
 pub record OfSize (cpi : ℕ) : Type 0 where
   pub accepted : fillChecked cpi (idle cpi) ≡ record { answer = Judged (Accepted (514 * cpi)); batch = filled cpi (idle cpi) }
+  -- in cycle k condition 2 is not met
   pub failed : (k : ℕ) → k < cpi → fails (fillChecked cpi (batchOf cpi (shiftsIn k)) .answer) ≡ true
+  -- questions 11 and 12: a given column that is no bit, whatever bits stand elsewhere; the one column 0
+  pub no-bit : (b : ℕ → ℕ → Bool) (c d l h : ℕ) → c < 2048 → derived c ≡ false → d < cpi → isBit (ofWords l h) ≡ false
+      → Refuses cpi 11 (c * cpi + d) (replaced (batchOf cpi b) (c * cpi + d) l h)
+  pub no-one : Refuses cpi 12 0 (replicate (8192 * cpi) 0)
 
 -- a row that the filler fills as called, and the verdict on it
 abbrev pub Comes : List ℕ → Verdict → Type 0
@@ -57,9 +59,16 @@ pub record Rows : Type 0 where
   pub p9-output-5 : Comes (withOutput 5 (withOnes systemOnes oneRow)) (Accepted 514)
   pub p9-output-6 : Comes (withOutput 6 (withOnes systemOnes oneRow)) (Failed Fld 3 487)
 
+-- questions 1 and 2
 pub record Refusals : Type 0 where
-  pub no-size : fillChecked 3 [] ≡ record { answer = Refused (no 1 0); batch = [] }
-  pub no-words : fillChecked 2 (7 ∷ []) ≡ record { answer = Refused (no 2 0); batch = 7 ∷ [] }
+  pub no-size : Refuses 3 1 0 []
+  pub no-words : Refuses 2 2 0 (7 ∷ [])
+
+-- what the filler's call comes to
+as-called : (cpi : ℕ) (batch : List ℕ) {c : Called} → called cpi batch ≡ c
+    → fillChecked cpi batch ≡ record { answer = answerAfter cpi (c .answer) (c .batch); batch = c .batch }
+unfolding fillChecked
+as-called cpi batch e = ap (λ (c : Called). record { answer = answerAfter cpi (c .answer) (c .batch); batch = c .batch }) e
 
 module _ (cpi : ℕ) (size : allowed cpi ≡ true) where
   some : 0 < cpi
@@ -76,28 +85,19 @@ module _ (cpi : ℕ) (size : allowed cpi ≡ true) where
     answer-is : fillChecked cpi (batchOf cpi b) .answer ≡ houseChecked cpi (filled cpi (batchOf cpi b))
     answer-is = ap (λ (c : FillChecked). c .answer) (sym (call .result))
 
-  bits-in : (k : ℕ) → k < cpi → bitsOf cpi (batchOf cpi (shiftsIn k)) k ≡ withOne (has (SHIFT-OUT ∷ IS-SHIFT ∷ []))
-  bits-in k l =
-      all-bits-of cpi some (shiftsIn k) k l ∙ ap (λ (t : Bool). withOne (λ c. t && has (SHIFT-OUT ∷ IS-SHIFT ∷ []) c)) (eq-eqb k k refl)
-
-  not-met : (k : ℕ) → k < cpi → EveryStep cpi (batchOf cpi (shiftsIn k)) → ⊥
-  unfolding has val
-  not-met k l h =
-      let z : _≡_ {A = ℕ} 0 1 = subst (λ (b : ℕ → Bool). Step b (cycleOf cpi (batchOf cpi (shiftsIn k)) k (ONE-COL + 1))) (bits-in k l) (h k l) .shift refl in
-      omega arith
-
   pub of-size : OfSize cpi
   of-size =
       record {
         accepted = sym (call (λ d c. false) .result)
             ∙ ap (λ (a : CheckAnswer). record { answer = a; batch = filled cpi (idle cpi) }) (is-judged cpi (idle cpi) (premises-of cpi some (λ d c. false) .fit) (yes (λ d c. false)) ∙ ap Judged (batch-examples cpi some .accepted size));
-        failed = λ k l. ap fails (answer-is (shiftsIn k)) ∙ call (shiftsIn k) .failed .1 (yes (shiftsIn k), not-met k l);
+        failed = λ k l. ap fails (answer-is (shiftsIn k)) ∙ call (shiftsIn k) .failed .1 (yes (shiftsIn k), shift-meets-not cpi some k l);
+        no-bit = λ b c d l h m e n above. as-called cpi (replaced (batchOf cpi b) (c * cpi + d) l h) (refuses cpi size .no-bit b c d l h m e n above);
+        no-one = as-called cpi (replicate (8192 * cpi) 0) (refuses cpi size .no-one);
       }
 
 comes : {row : List ℕ} {v : Verdict} → Gives row v → Comes row v
-unfolding fillChecked
 comes {row} {v} g =
-    ap (λ (c : Called). record { answer = answerAfter 1 (c .answer) (c .batch); batch = c .batch }) (g .fill)
+    as-called 1 row (g .fill)
     ∙ ap (λ (a : CheckAnswer). record { answer = a; batch = filled 1 row })
     (house-agrees 1 (filled 1 row) (replicate 3072 0) (length-replicate {A = ℕ} 3072 0)
     ∙ ap (λ (c : Checked). c .answer) (g .check (replicate 3072 0) (length-replicate {A = ℕ} 3072 0)))

@@ -1,4 +1,4 @@
--- Filling and checking promises what demand 3 says: of a slice as it is lent, whose words are words.
+-- Filling and checking promises what demand 3 says of acceptance: of a slice as it is lent, whose words are words.
 -- Assumes nothing.
 use mathlib.Core.Path.{_≡_, refl, sym, ap, subst, fun-ext, _∙_}
 use mathlib.Core.Logic.{_↔_}
