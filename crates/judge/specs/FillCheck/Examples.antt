@@ -7,7 +7,7 @@ use mathlib.Core.List.{List, [], _∷_}
 use Prim.Native.Nat.{ℕ, _+_, _*_, _<_}
 use lib.ListN.{replicate, length-replicate}
 use Rattle.field.specs.Gf.{ofWords, isBit}
-use Rattle.layout.specs.Columns.{ALU, IS-STORE}
+use Rattle.layout.specs.Columns.{ALU, IS-LOAD, IS-STORE}
 use Rattle.layout.specs.declared.Asked.the-variants.{Yes}
 use Rattle.layout.specs.Batch.{allowed}
 use Rattle.layout.specs.Questions.{no}
@@ -35,8 +35,8 @@ use Rattle.judge.specs.FillCheck.{FillChecked, answerAfter, fillChecked,
 use Rattle.judge.specs.FillCheck.Laws.{is-judged, fill-promised}
 
 -- a batch is refused with a number and a place, and stays as it came
-abbrev pub Refuses : ℕ → ℕ → ℕ → List ℕ → Type 0
-Refuses cpi k place batch = fillChecked cpi batch ≡ record { answer = Refused (no k place); batch = batch }
+abbrev pub RefusedAs : ℕ → ℕ → ℕ → List ℕ → Type 0
+RefusedAs cpi k place batch = fillChecked cpi batch ≡ record { answer = Refused (no k place); batch = batch }
 
 pub record OfSize (cpi : ℕ) : Type 0 where
   pub accepted : fillChecked cpi (idle cpi) ≡ record { answer = Judged (Accepted (514 * cpi)); batch = filled cpi (idle cpi) }
@@ -44,25 +44,27 @@ pub record OfSize (cpi : ℕ) : Type 0 where
   pub failed : (k : ℕ) → k < cpi → fails (fillChecked cpi (batchOf cpi (shiftsIn k)) .answer) ≡ true
   -- questions 11 and 12: a given column that is no bit, whatever bits stand elsewhere; the one column 0
   pub no-bit : (b : ℕ → ℕ → Bool) (c d l h : ℕ) → c < 2048 → derived c ≡ false → d < cpi → isBit (ofWords l h) ≡ false
-      → Refuses cpi 11 (c * cpi + d) (replaced (batchOf cpi b) (c * cpi + d) l h)
-  pub no-one : Refuses cpi 12 0 (replicate (8192 * cpi) 0)
+      → RefusedAs cpi 11 (c * cpi + d) (replaced (batchOf cpi b) (c * cpi + d) l h)
+  pub no-one : RefusedAs cpi 12 0 (replicate (8192 * cpi) 0)
 
 -- a row that the filler fills as called, and the verdict on it
-abbrev pub Comes : List ℕ → Verdict → Type 0
-Comes row v = fillChecked 1 row ≡ record { answer = Judged v; batch = filled 1 row }
+abbrev pub FilledAndJudged : List ℕ → Verdict → Type 0
+FilledAndJudged row v = fillChecked 1 row ≡ record { answer = Judged v; batch = filled 1 row }
 
 -- P6 to P9 of the bench sheet
 pub record Rows : Type 0 where
-  pub p6 : Comes oneRow (Accepted 514)
-  pub p7-store : Comes (withOnes (IS-STORE ∷ addressOnes) oneRow) (Failed Bin 255 256)
-  pub p8-alu-1 : Comes (withOnes (ALU ∷ sumOnes) oneRow) (Failed Fld 1 485)
-  pub p9-output-5 : Comes (withOutput 5 (withOnes systemOnes oneRow)) (Accepted 514)
-  pub p9-output-6 : Comes (withOutput 6 (withOnes systemOnes oneRow)) (Failed Fld 3 487)
+  pub p6 : FilledAndJudged oneRow (Accepted 514)
+  pub p7-store : FilledAndJudged (withOnes (IS-STORE ∷ addressOnes) oneRow) (Failed Bin 255 256)
+  pub p7-load-store : FilledAndJudged (withOnes (IS-LOAD ∷ IS-STORE ∷ addressOnes) oneRow) (Accepted 514)
+  pub p8-alu-0 : FilledAndJudged (withOnes sumOnes oneRow) (Accepted 514)
+  pub p8-alu-1 : FilledAndJudged (withOnes (ALU ∷ sumOnes) oneRow) (Failed Fld 1 485)
+  pub p9-output-5 : FilledAndJudged (withOutput 5 (withOnes systemOnes oneRow)) (Accepted 514)
+  pub p9-output-6 : FilledAndJudged (withOutput 6 (withOnes systemOnes oneRow)) (Failed Fld 3 487)
 
 -- questions 1 and 2
 pub record Refusals : Type 0 where
-  pub no-size : Refuses 3 1 0 []
-  pub no-words : Refuses 2 2 0 (7 ∷ [])
+  pub no-size : RefusedAs 3 1 0 []
+  pub no-words : RefusedAs 2 2 0 (7 ∷ [])
 
 -- what the filler's call comes to
 as-called : (cpi : ℕ) (batch : List ℕ) {c : Called} → called cpi batch ≡ c
@@ -95,8 +97,8 @@ module _ (cpi : ℕ) (size : allowed cpi ≡ true) where
         no-one = as-called cpi (replicate (8192 * cpi) 0) (refuses cpi size .no-one);
       }
 
-comes : {row : List ℕ} {v : Verdict} → Gives row v → Comes row v
-comes {row} {v} g =
+filled-and-judged : {row : List ℕ} {v : Verdict} → Gives row v → FilledAndJudged row v
+filled-and-judged {row} {v} g =
     as-called 1 row (g .fill)
     ∙ ap (λ (a : CheckAnswer). record { answer = a; batch = filled 1 row })
     (house-agrees 1 (filled 1 row) (replicate 3072 0) (length-replicate {A = ℕ} 3072 0)
@@ -105,11 +107,13 @@ comes {row} {v} g =
 pub rows : Rows
 rows =
     record {
-      p6 = comes (sheet .p6);
-      p7-store = comes (sheet .p7-store);
-      p8-alu-1 = comes (sheet .p8-alu-1);
-      p9-output-5 = comes (sheet .p9-output-5);
-      p9-output-6 = comes (sheet .p9-output-6);
+      p6 = filled-and-judged (sheet .p6);
+      p7-store = filled-and-judged (sheet .p7-store);
+      p7-load-store = filled-and-judged (sheet .p7-load-store);
+      p8-alu-0 = filled-and-judged (sheet .p8-alu-0);
+      p8-alu-1 = filled-and-judged (sheet .p8-alu-1);
+      p9-output-5 = filled-and-judged (sheet .p9-output-5);
+      p9-output-6 = filled-and-judged (sheet .p9-output-6);
     }
 
 pub refusals : Refusals
