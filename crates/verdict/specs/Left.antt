@@ -41,7 +41,7 @@ rowAt part at = rowOf (getD part at 0) (drop (at + 1) part)
 -- ---- what is left
 
 module _ (cpi : ℕ) (bin fld : List ℕ) where
-  abbrev inPart : ℕ → List Constraint
+  abbrev pub inPart : ℕ → List Constraint
   inPart r = inCycles 0 cpi (rowsOf (partAt bin fld r))
 
   -- left at the relation loop, at the cycle loop, and at the row loop
@@ -54,32 +54,35 @@ module _ (cpi : ℕ) (bin fld : List ℕ) where
   unfoldable pub leftRows : List ℕ → ℕ → ℕ → ℕ → List Constraint
   leftRows part r d at = map (inCycle d) (rowsOf (drop at part)) ++ leftCycles r (d + 1)
 
-  pub relation-step : (r : ℕ) → r < 2 → allParts r ≡ leftCycles r 0
+-- ---- from one loop to the next
+
+module _ (cpi : ℕ) (bin fld : List ℕ) where
+  pub relation-step : (r : ℕ) → r < 2 → allParts cpi bin fld r ≡ leftCycles cpi bin fld r 0
   unfolding allParts leftCycles
-  relation-step r h = rw (each-step inPart 2 r h, sub-zero)
+  relation-step r h = rw (each-step (inPart cpi bin fld) 2 r h, sub-zero)
 
-  pub relation-end : (r : ℕ) → r ≡ 2 → allParts r ≡ []
+  pub relation-end : (r : ℕ) → r ≡ 2 → allParts cpi bin fld r ≡ []
   unfolding allParts
-  relation-end r e = each-end inPart 2 r (omega arith)
+  relation-end r e = each-end (inPart cpi bin fld) 2 r (omega arith)
 
-  pub cycle-step : (r d : ℕ) → d < cpi → (part : List ℕ) → part ≡ partAt bin fld r → leftCycles r d ≡ leftRows part r d 0
+  pub cycle-step : (r d : ℕ) → d < cpi → (part : List ℕ) → part ≡ partAt bin fld r → leftCycles cpi bin fld r d ≡ leftRows cpi bin fld part r d 0
   unfolding leftCycles leftRows
   cycle-step r d h part e = rw (each-step (λ e. map (inCycle e) (rowsOf (partAt bin fld r))) cpi d h, append-assoc, e)
 
-  pub cycle-end : (r d : ℕ) → cpi ≤ d → leftCycles r d ≡ allParts (r + 1)
+  pub cycle-end : (r d : ℕ) → cpi ≤ d → leftCycles cpi bin fld r d ≡ allParts cpi bin fld (r + 1)
   unfolding leftCycles
   cycle-end r d h = rw (each-end (λ e. map (inCycle e) (rowsOf (partAt bin fld r))) cpi d h)
 
-  pub row-end : (part : List ℕ) (r d at : ℕ) → length part ≤ at → leftRows part r d at ≡ leftCycles r (d + 1)
+  pub row-end : (part : List ℕ) (r d at : ℕ) → length part ≤ at → leftRows cpi bin fld part r d at ≡ leftCycles cpi bin fld r (d + 1)
   unfolding leftRows parse
   row-end part r d at h = rw (drop-of-length-le part h)
 
   -- the row whose mark stands at an index, with what is left behind it
   pub row-here : (part : List ℕ) (r d at end : ℕ) → at < length part → isMark (getD part at 0) ≡ true → RowEnds part (at + 1) end
-      → leftRows part r d at ≡ inCycle d (rowAt part at) ∷ leftRows part r d end
+      → leftRows cpi bin fld part r d at ≡ inCycle d (rowAt part at) ∷ leftRows cpi bin fld part r d end
   unfolding leftRows
   row-here part r d at end h m e =
-      ap (λ rs. map (inCycle d) rs ++ leftCycles r (d + 1))
+      ap (λ rs. map (inCycle d) rs ++ leftCycles cpi bin fld r (d + 1))
       (ap rowsOf (drop-cons part at 0 h) ∙ ap (λ n. rowsOf (getD part at 0 ∷ drop n part)) (sym (add-one at))
       ∙ rows-mark (getD part at 0) (drop (at + 1) part) m ∙ ap (λ rs. rowAt part at ∷ rs) (sym (e .rows-left)))
 
