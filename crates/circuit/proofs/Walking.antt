@@ -1,8 +1,7 @@
 -- Steps that the walks over a listing reader share.
 --     Spelling      how a type's values stand in a local: the machine value, that it is the only one, and that it has the local's type
 --     args1 ..      the operands of a call are locals
---     answers-last  a function is called, and its answer lands in a local: what it says of the answer and of what was lent by `&mut`
---     answers       the same, of a function to which nothing is lent by `&mut`
+--     answers       a function is called, and its answer lands in a local: what it says of the answer and of what was lent by `&mut`
 --     lent          a reference, the tokens, and plain values beside it are what a function asks for
 --     own-field     what one field of a struct owns
 --     leave         a local is freed, whatever it holds
@@ -92,8 +91,8 @@ module _ {M : Type 1} (𝓤 : URA M) (H : Heap 𝓤) (A : Atoms 𝓤) (F : Ended
     abbrev Living : Item 𝓤
     Living = raw (alive 𝓤 H A (F .signature) (y .0 .0) (y .0 .1))
 
-    abbrev Ended-at : Ends → Item 𝓤
-    Ended-at ws = ‵ (lasts F (y .0 .0) (y .0 .3) ws)
+    abbrev Lasting : Ends → Item 𝓤
+    Lasting ws = ‵ (lasts F (y .0 .0) (y .0 .3) ws)
 
 -- the local i in a context: nothing is in it, and v is
 module _ {M : Type 1} (𝓤 : URA M) (H : Heap 𝓤) (E : Env 𝓤 H) (i : ℕ) where
@@ -129,36 +128,26 @@ module _ {M : Type 1} {𝓤 : URA M} {H : Heap 𝓤} {A : Atoms 𝓤} {K : Type 
 
   -- the answer goes to the local i, which stands at entry n
   module _ {C : Calls 𝓤 H} {Λ : Loops 𝓤 H} {p : Post 𝓤 H} {f : Name} {xs : List Operand} {i : ℕ} {rest : Body} where
-    pub answers-last : K → FmC 𝓤 H (W .laws) C → (F : Ended) (c : Clauses 𝓤 F) → Triple 𝓤 (C f) (Met 𝓤 H A F c) → (y : Met 𝓤 H A F c .Ghost)
-        → (Said : Row 𝓤 H A F c y .Denot → Ends 𝓤 H A F c y → Type 0) → Says 𝓤 H A F c y Said
-        → Opds K W (raw (Met 𝓤 H A F c .pre y) ∷ Γ) E xs (Met 𝓤 H A F c .args y)
-        → (s : Spelling (Row 𝓤 H A F c y) (spotOf 𝓤 H E i .0 ∷ [])) (n : ℕ) → nth 𝓤 H A n Γ ≡ room-of 𝓤 H E i
-        → ((r : Row 𝓤 H A F c y .Denot) (ws : Ends 𝓤 H A F c y) → Said r ws → Is (Row 𝓤 H A F c y) r (s .val r ∷ [])
-        → Seq K W (‵ (Row 𝓤 H A F c y .own r (s .val r ∷ [])) ∷ Living 𝓤 H A F c y ∷ Ended-at 𝓤 H A F c y ws ∷ put 𝓤 H A n (held 𝓤 H E i fullShare (s .val r)) Γ) (runs C Λ E rest p))
-        → Seq K W (raw (Met 𝓤 H A F c .pre y) ∷ Γ) (runs C Λ E (seq (call f xs (place i [])) rest) p)
-    answers-last t fm F c known y Said says os s n empty k =
-        let R : RattleType = Row 𝓤 H A F c y in
-        calls-at t fm (Met 𝓤 H A F c) known y os (λ u.
-        use1 W (later (some (λ (r : R .Denot). (Living 𝓤 H A F c y ⊛ ‵ (R .own r (u ∷ []))) ⊛ some (λ (ws : Ends 𝓤 H A F c y).
-        Ended-at 𝓤 H A F c y ws ⊛ raw (c (y .0 .0) (y .0 .3) .ensures (y .1) r (atExit F (y .0 .0) (y .0 .3) ws)))))) (id⊢ 𝓤 _) $
-        await t tt $ pick t (λ r. split t $ move t (1 ∷ []) $ pick t (λ ws. split t $ move t (1 ∷ []) $
-        use1 W (raw (fact 𝓤 (Said r ws))) (says r ws) $ heard t (Said r ws) (λ said. move t (1 ∷ []) $ split t $ move t (1 ∷ []) $
-        peeks t R (Is R) (shows 𝓤 H A R) r (u ∷ []) (λ is.
-        subst (λ (v : Val). Is R r (v ∷ []) → Seq K W (‵ (R .own r (v ∷ [])) ∷ Living 𝓤 H A F c y ∷ Ended-at 𝓤 H A F c y ws ∷ Γ) (lands C Λ E (place i []) v rest p))
-        (sym (ap only (s .tells r (u ∷ []) is)))
-        (λ is′. land t (from t (stop t)) (init t (suc (suc (suc n))) empty (s .typed r is′ .0)) $ k r ws said is′) is)))))
-
     pub answers : K → FmC 𝓤 H (W .laws) C → (F : Ended) (c : Clauses 𝓤 F) → Triple 𝓤 (C f) (Met 𝓤 H A F c) → (y : Met 𝓤 H A F c .Ghost)
-        → (Said : Row 𝓤 H A F c y .Denot → Type 0) → Says 𝓤 H A F c y (λ r _. Said r)
+        → (Said : Row 𝓤 H A F c y .Denot → Ends 𝓤 H A F c y → Type 0) → Says 𝓤 H A F c y Said
         → {i₁ i₂ : Item 𝓤} → ent 𝓤 (sep 𝓤 (mean 𝓤 H A i₁) (mean 𝓤 H A i₂)) (Met 𝓤 H A F c .pre y)
         → Opds K W (raw (Met 𝓤 H A F c .pre y) ∷ Γ) E xs (Met 𝓤 H A F c .args y)
         → (s : Spelling (Row 𝓤 H A F c y) (spotOf 𝓤 H E i .0 ∷ [])) (n : ℕ) → nth 𝓤 H A n Γ ≡ room-of 𝓤 H E i
-        → ((r : Row 𝓤 H A F c y .Denot) → Said r → Is (Row 𝓤 H A F c y) r (s .val r ∷ [])
-        → Seq K W (‵ (Row 𝓤 H A F c y .own r (s .val r ∷ [])) ∷ Living 𝓤 H A F c y ∷ put 𝓤 H A n (held 𝓤 H E i fullShare (s .val r)) Γ) (runs C Λ E rest p))
+        → ((r : Row 𝓤 H A F c y .Denot) (ws : Ends 𝓤 H A F c y) → Said r ws → Is (Row 𝓤 H A F c y) r (s .val r ∷ [])
+        → Seq K W (Lasting 𝓤 H A F c y ws ∷ ‵ (Row 𝓤 H A F c y .own r (s .val r ∷ [])) ∷ Living 𝓤 H A F c y
+        ∷ put 𝓤 H A n (held 𝓤 H E i fullShare (s .val r)) Γ) (runs C Λ E rest p))
         → Seq K W (i₁ ∷ i₂ ∷ Γ) (runs C Λ E (seq (call f xs (place i [])) rest) p)
     answers t fm F c known y Said says pays os s n empty k =
-        use2 W (raw (Met 𝓤 H A F c .pre y)) pays $
-        answers-last t fm F c known y (λ r _. Said r) says os s n empty (λ r ws said is. move t (2 ∷ []) $ drop t $ k r said is)
+        let R : RattleType = Row 𝓤 H A F c y in
+        use2 W (raw (Met 𝓤 H A F c .pre y)) pays $ calls-at t fm (Met 𝓤 H A F c) known y os (λ u.
+        use1 W (later (some (λ (r : R .Denot). (Living 𝓤 H A F c y ⊛ ‵ (R .own r (u ∷ []))) ⊛ some (λ (ws : Ends 𝓤 H A F c y).
+        Lasting 𝓤 H A F c y ws ⊛ raw (c (y .0 .0) (y .0 .3) .ensures (y .1) r (atExit F (y .0 .0) (y .0 .3) ws)))))) (id⊢ 𝓤 _) $
+        await t tt $ pick t (λ r. split t $ move t (1 ∷ []) $ pick t (λ ws. split t $ move t (1 ∷ []) $
+        use1 W (raw (fact 𝓤 (Said r ws))) (says r ws) $ heard t (Said r ws) (λ said. move t (1 ∷ []) $ split t $ move t (1 ∷ []) $
+        peeks t R (Is R) (shows 𝓤 H A R) r (u ∷ []) (λ is. move t (2 ∷ []) $
+        subst (λ (v : Val). Is R r (v ∷ []) → Seq K W (Lasting 𝓤 H A F c y ws ∷ ‵ (R .own r (v ∷ [])) ∷ Living 𝓤 H A F c y ∷ Γ)
+        (lands C Λ E (place i []) v rest p)) (sym (ap only (s .tells r (u ∷ []) is)))
+        (λ is′. land t (from t (stop t)) (init t (suc (suc (suc n))) empty (s .typed r is′ .0)) $ k r ws said is′) is)))))
 
   -- entry n is the local that is freed next
   pub leave : K → (n : ℕ) {τ : Ty} {b : ℕ} {v : Val} {G : Goal 𝓤 H} → nth 𝓤 H A n Γ ≡ ‵ (fat fullShare τ b 0 v)

@@ -117,14 +117,14 @@ module _ {M : Type 1} (𝓤 : URA M) (H : Heap 𝓤) (A : Atoms 𝓤) (W : Given
         -- [_4; …; _3; …; _2; …; _1; …; room for _0; …; the token; the parameters']
         move ! (11 ∷ []) $ fsplit ! $ twice ! (ShrSlice (named 0) κ u32) (shr-slice-copy 𝓤 H A W (named 0) κ u32) s _ $ move ! (0 ∷ 13 ∷ []) $
         answers ! fm validate.ended (validate.clauses 𝓤 H A mem run) known-validate (((κ, tt), (q, tt), tt, (s, tt), (sv s ∷ [], tt)), tt)
-        (λ a. a ≡ validated (now s)) (λ _ _. id⊢ 𝓤 _) (lent 𝓤 H A W (Slice s) Token [] tt tt tt tt) (args1 ! 9 refl)
-        (of-enum 𝓤 H A W Q.the-type Q.Laws.the-laws tt) 6 refl (λ a said-a a-is.
+        (λ a _. a ≡ validated (now s)) (λ _ _. id⊢ 𝓤 _) (lent 𝓤 H A W (Slice s) Token [] tt tt tt tt) (args1 ! 9 refl)
+        (of-enum 𝓤 H A W Q.the-type Q.Laws.the-laws tt) 6 refl (λ a _ said-a a-is. drop ! $
         -- [the answer's; the token; the listing's; the others'; _4; …]
         drop ! $ move ! (1 ∷ []) $ twice ! (ShrSlice (named 0) κ u32) (shr-slice-copy 𝓤 H A W (named 0) κ u32) s _ $ move ! (0 ∷ 2 ∷ []) $
         answers ! fm admit.ended (admit.clauses 𝓤 H A mem run) known-admit (((κ, tt), (q, tt), tt, (s, (a, tt)), (sv s ∷ [], (_, tt))), tt)
-        (λ r. now r ≡ admitted a (now s)) (λ _ _. id⊢ 𝓤 _)
+        (λ r _. now r ≡ admitted a (now s)) (λ _ _. id⊢ 𝓤 _)
         (lent 𝓤 H A W (Slice s) Token (Q.the-row ∷ []) (EL.makes Q.the-type Q.Laws.the-plain 𝓤 H A, tt) (a, tt) (_, tt) (a-is, tt)) (args2 ! 9 refl 7 refl)
-        (of-slice 𝓤 H A W κ) 4 refl (λ r said-r r-is.
+        (of-slice 𝓤 H A W κ) 4 refl (λ r _ said-r r-is. drop ! $
         -- [the words'; the token; the listing's; the others'; _4; …; _3; …; _2; …; _1; …; room for _0; …]
         assigns ! (agg ! (and-then ! (local ! 6 refl) (and-then ! (lit ! tt) (no-more !)))) (from ! (stop !))
         (init ! 4 refl (LL.lawful (T.the-type αᵉ) (T.Laws.the-laws αᵉ) 𝓤 H A W .typed (reader r) _ (reader-is αᵉ r r-is) .0)) $

@@ -174,18 +174,18 @@ module _ {M : Type 1} (𝓤 : URA M) (H : Heap 𝓤) (A : Atoms 𝓤) (W : Given
         -- [the listing's; 'a's token; the listing's; the struct's; its cell; the open borrow; obs; auth; the others'; _8; …]
         answers ! fm find_row.ended (find_row.clauses 𝓤 H A at-mem run) known-find
         (((κ′, tt), (q′, tt), tt, (h .listing, (e, (n, tt))), (sv (h .listing) ∷ [], (ev ∷ [], (vint w64 n ∷ [], tt)))), tt)
-        (λ f. f ≡ found (now (h .listing)) e n) (λ _ _. id⊢ 𝓤 _)
+        (λ f _. f ≡ found (now (h .listing)) e n) (λ _ _. id⊢ 𝓤 _)
         (lent 𝓤 H A W (Slice (h .listing)) Token (E.the-row ∷ usize ∷ []) (EL.makes E.the-type E.Laws.the-plain 𝓤 H A, (uint-makes 𝓤 H A W w64, tt))
         (e, (n, tt)) (ev ∷ [], (vint w64 n ∷ [], tt)) (e-is, ((refl, n-fits), tt)))
-        (args3 ! 16 refl 20 refl 18 refl) (of-enum 𝓤 H A W F.the-type F.Laws.the-laws tt) 11 refl (λ f said-f f-is.
+        (args3 ! 16 refl 20 refl 18 refl) (of-enum 𝓤 H A W F.the-type F.Laws.the-laws tt) 11 refl (λ f _ said-f f-is. drop ! $
         nothing ! $ move ! (1 ∷ 0 ∷ []) $
         -- [the place's; no token; 'a's token; the listing's; the struct's; its cell; the open borrow; obs; auth; the others'; _8; …]
         answers ! fm position_after.ended (position_after.clauses 𝓤 H A at-mem run) known-after
         ((tt, tt, tt, (f, (h .position, tt)), (EL.vals F.the-type F.Laws.the-laws f, (vint w64 (h .position) ∷ [], tt))), tt)
-        (λ r. r ≡ positionAfter f (h .position)) (λ _ _. id⊢ 𝓤 _)
+        (λ r _. r ≡ positionAfter f (h .position)) (λ _ _. id⊢ 𝓤 _)
         (lent 𝓤 H A W (F.the-row .own f _) (emp 𝓤) (usize ∷ []) (uint-makes 𝓤 H A W w64, tt) (h .position, tt) (_, tt)
         ((refl, LL.lawful D L 𝓤 H A W .typed h _ was .0 .1 .1 .0 .fits), tt))
-        (args2 ! 13 refl 15 refl) (of-number 𝓤 H A W) 10 refl (λ r said-r r-is. drop ! $ drop ! $
+        (args2 ! 13 refl 15 refl) (of-number 𝓤 H A W) 10 refl (λ r _ said-r r-is. drop ! $ drop ! $ drop ! $
         -- ['a's token; the listing's; the struct's; its cell; the open borrow; obs; auth; the others'; _8; …]
         assigns ! (of-opd ! (local ! 10 refl)) (from ! (hop ! (look ! 22 refl) (fld ! refl (stop !))))
         (store-in ! 3 (sub ! 1 refl (whole !)) (tt, record { fits = r-is .1 })) $
@@ -195,9 +195,9 @@ module _ {M : Type 1} (𝓤 : URA M) (H : Heap 𝓤) (A : Atoms 𝓤) (W : Given
         -- [the listing's; 'a's token; obs; the borrow; its token; the others'; _8; …]
         answers ! fm part_at.ended (part_at.clauses 𝓤 H A at-mem run) known-part
         (((κ′, tt), (q′, tt), tt, (h .listing, (f, tt)), (sv (h .listing) ∷ [], (EL.vals F.the-type F.Laws.the-laws f, tt))), tt)
-        (λ p. now p ≡ partOf f (now (h .listing))) (λ _ _. id⊢ 𝓤 _)
+        (λ p _. now p ≡ partOf f (now (h .listing))) (λ _ _. id⊢ 𝓤 _)
         (lent 𝓤 H A W (Slice (h .listing)) Token (F.the-row ∷ []) (EL.makes F.the-type F.Laws.the-plain 𝓤 H A, tt) (f, tt) (_, tt) (f-is, tt))
-        (args2 ! 13 refl 9 refl) (of-slice 𝓤 H A W κ′) 4 refl (λ p said-p p-is.
+        (args2 ! 13 refl 9 refl) (of-slice 𝓤 H A W κ′) 4 refl (λ p _ said-p p-is. drop ! $
         -- [the part's; 'a's token; obs; the borrow; its token; the others'; _8; …; _7; …; _6; …; _5; …; _4; …; _3; …; _2; …; _1; …; room for _0; …]
         assigns ! (agg ! (args2 ! 10 refl 6 refl)) (from ! (stop !)) (init ! 22 refl (LL.lawful (R.the-type (α κ′)) (R.Laws.the-laws (α κ′)) 𝓤 H A W .typed
         (made f p) _ (LL.owes (R.the-type (α κ′)) (R.Laws.the-laws (α κ′)) (made f p) (f-is, (p-is, tt))) .0)) $
