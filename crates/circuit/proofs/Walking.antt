@@ -162,6 +162,30 @@ module _ {M : Type 1} {𝓤 : URA M} {H : Heap 𝓤} {A : Atoms 𝓤} {K : Type 
         (monoR 𝓤 (H .room τ b 0) (push 𝓤 H A (‵ (fdies τ b)) (del 𝓤 H A n (del 𝓤 H A n Γ)))) ((free1 t $ s) .prf)));
   })
 
+-- the cells at the entries ns are the locals that are freed next
+module _ {M : Type 1} (𝓤 : URA M) (H : Heap 𝓤) (A : Atoms 𝓤) where
+  abbrev pub Done : List ℕ → Env 𝓤 H → List (Item 𝓤) → Type 2
+  Done [] E Γ = Unit {2}
+  Done (n ∷ ns) [] Γ = Unit {2} → ⊥
+  Done (n ∷ ns) (l ∷ E) Γ =
+      (v : Val) × (nth 𝓤 H A n Γ ≡ ‵ (fat fullShare (l .0) (l .1) 0 v)) × (nth 𝓤 H A n (del 𝓤 H A n Γ) ≡ ‵ (fdies (l .0) (l .1)))
+      × Done ns E (del 𝓤 H A n (del 𝓤 H A n Γ))
+
+  abbrev pub undone : List ℕ → Env 𝓤 H → Env 𝓤 H
+  undone [] E = E
+  undone (n ∷ ns) [] = []
+  undone (n ∷ ns) (l ∷ E) = undone ns E
+
+  abbrev pub gone : List ℕ → List (Item 𝓤) → List (Item 𝓤)
+  gone [] Γ = Γ
+  gone (n ∷ ns) Γ = gone ns (del 𝓤 H A n (del 𝓤 H A n Γ))
+
+pub leaves : {M : Type 1} {𝓤 : URA M} {H : Heap 𝓤} {A : Atoms 𝓤} {K : Type 0} {W : Given 𝓤 H A} {Γ : List (Item 𝓤)} {E : Env 𝓤 H} {G : Goal 𝓤 H}
+    → K → (ns : List ℕ) → Done 𝓤 H A ns E Γ → Step K W (gone 𝓤 H A ns Γ) (frees (undone 𝓤 H A ns E) G) Γ (frees E G)
+leaves t [] d = step (λ s. s)
+leaves {E = []} t (n ∷ ns) d = absurd (d tt)
+leaves {E = l ∷ E} t (n ∷ ns) d = step (λ s. leave t n (d .1) (d .2) $ leaves t ns (d .3) $ s)
+
 module _ {M : Type 1} (𝓤 : URA M) (H : Heap 𝓤) (A : Atoms 𝓤) (W : Given 𝓤 H A) where
   pub lent : (P : Fml) (Y : SProp 𝓤) (Rs : List RattleType) → Makess 𝓤 H A Rs (Ises Rs) → (a : Denots Rs) (vss : Valss Rs) → Are Rs (Ises Rs) a vss
       → ent 𝓤 (sep 𝓤 (sem 𝓤 H A P) Y) (sep 𝓤 (sep 𝓤 Y (sem 𝓤 H A (fsep P (owns Rs a vss)))) (emp 𝓤))
