@@ -1,10 +1,11 @@
--- Steps that the walks over a listing reader share.
+-- Steps that the walks over a listing reader share, and the names that a walk uses, which this file passes on.
 --     Spelling      how a type's values stand in a local: the machine value, that it is the only one, and that it has the local's type
 --     args1 ..      the operands of a call are locals
 --     answers       a function is called, and its answer lands in a local: what it says of the answer and of what was lent by `&mut`
 --     lent          a reference, the tokens, and plain values beside it are what a function asks for
 --     own-field     what one field of a struct owns
---     leave         a local is freed, whatever it holds
+--     twice         what a Copy type owns is had twice
+--     leave, leaves a local is freed, whatever it holds, and several are
 --     enters        from a walk to the statement
 -- Assumes `Given`.
 pub use mathlib.Core.Path.{_≡_, refl, ap, _∙_}
@@ -82,7 +83,7 @@ use denote.Struct.Struct.{Struct}
 use denote.Struct.Values.{intos}
 use denote.Triple.Call.{calls-at}
 use denote.Triple.Clauses.{Clauses, Ended, Lasts, atExit, lasts, closing}
-use denote.Triple.Entry.{Args, Res}
+use denote.Triple.Entry.{Args}
 use denote.Triple.Spec.{tripleOf}
 use denote.Triple.Table.{entered}
 use denote.Triple.Walked.{AllGo, walked, walk-meets}
