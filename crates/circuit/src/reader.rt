@@ -8,7 +8,7 @@ ghost use mathlib.Core.Path.{_≡_};
 ghost use Rattle.circuit.specs.Reader.{admitted, positionAfter, rowOf, OpensTo, AnswersRow, rowRead};
 
 // A listing in order is read, any other is a listing of no words.
-fn admit<'a>(asked: Asked, listing: &'a [u32]) -> &'a [u32]
+fn admit<'a>(listing: &'a [u32], asked: Asked) -> &'a [u32]
     ensures { λ r. ⌜ now r ≡ admitted asked (now (listing .entry)) ⌝ }
 {
     match asked {
@@ -60,7 +60,7 @@ impl<'a> ListingReader<'a> {
         ensures { λ o. ⌜ OpensTo (now (listing .entry)) o ⌝ }
     {
         let asked = questions::validate(listing);
-        let words = admit(asked, listing);
+        let words = admit(listing, asked);
         Opened {
             asked,
             reader: ListingReader {
@@ -85,12 +85,12 @@ impl<'a> ListingReader<'a> {
     }
 }
 
-// A listing is opened and asked for one row, on plain words and numbers.
+// A listing is opened and asked for one row, on plain words and numbers: what `open` and then `row` come to, by the functions that
+// they stand on, so that whoever calls it needs no proof by hand.
 pub fn read_row(listing: &[u32], relation: Relation, row: usize) -> Found
     ensures { λ r. ⌜ r ≡ rowRead (now (listing .entry)) relation row ⌝ }
 {
-    let opened = ListingReader::open(listing);
-    let mut reader = opened.reader;
-    let answer = reader.row(relation, row);
-    row_of(opened.asked, answer.place)
+    let asked = questions::validate(listing);
+    let place = search::find_row(admit(listing, asked), relation, row);
+    row_of(asked, place)
 }

@@ -94,7 +94,8 @@ pub extern "C" fn compare_reader(
     i: usize,
     out: &mut [u64],
 ) -> u64
-    ensures { λ r. ⌜ reply r (now (out .exit)) ≡ readerReply (twoRows (now (listing .entry)) (chosenRelation relation) row (chosenRelation «next_relation») «next_row» i) (now (out .entry)) ⌝ }
+    ensures { λ r. ⌜ reply r (now (out .exit)) ≡ readerReply
+        (twoRows (now (listing .entry)) (chosenRelation relation) row (chosenRelation «next_relation») «next_row» i) (now (out .entry)) ⌝ }
 {
     if out.len() < 8 {
         return 0x8000000000000000;

@@ -20,7 +20,8 @@ rows c =
     ap₂ reply (c .asked-number .ensures) (w .write-rows .ensures)
     ∙ ap (λ t. reply (askedNumber (t .asked)) (rowWords t ++ drop 8 (now (a .out))))
     (r .two-rows .ensures
-    ∙ ap₂ (λ first second. twoRows (now (a .listing)) first (a .row) second (a .next-row) (a .i)) (k .before .chosen-relation .ensures) (k .chosen-relation2 .ensures))
+    ∙ ap₂ (λ first second. twoRows (now (a .listing)) first (a .row) second (a .next-row) (a .i)) (k .before .chosen-relation .ensures)
+    (k .chosen-relation2 .ensures))
     ∙ refused _ _ _ (le-ltb _ _ (i .if1 .left))
 
 pub compare-reader-spec : {M : Type 1} → statement M

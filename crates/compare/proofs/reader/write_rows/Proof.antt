@@ -23,7 +23,8 @@ eight-words t p q r u ep eq er eu l h =
 rows : tie.Need-returns
 rows c =
     let s = c .before in let f = s .before in let g = f .before in let b = g .before .before in
-    eight-words (b .args .read) _ _ _ _ (g .start-number .ensures) (f .end-number .ensures) (s .start-number2 .ensures) (c .end-number2 .ensures)
+    eight-words (b .args .read) _ _ _ _ (g .start-number .ensures) (f .end-number .ensures) (s .start-number2 .ensures)
+    (c .end-number2 .ensures)
     (now (b .args .out)) (b .pre)
 
 pub write-rows-spec : {M : Type 1} → statement M
