@@ -90,19 +90,20 @@ module _ (r : CycleRecord) (m : RomRow) where
   unfolding columnBit
   taken-read = flag 11 (r .«branch_taken») (omega arith) refl
 
+  low-lt : pack (flags (lowFlags r)) < 64
+  low-lt = six-lt (subtracts r) (r .we) (r .«is_load») (r .«is_store») (r .«is_arith») (r .«halted_latch»)
+
+  high-lt : pack (flags (highFlags r)) < 64
+  high-lt = six-lt (r .«is_shift») (r .«is_logic») (r .«ld_byte») (r .«ld_half») (r .«ld_word») (r .«branch_taken»)
+
   pub flags-lt : flagsWord r < 2 ^ 64
   unfolding flagsWord
-  flags-lt =
-      let low = six-lt (subtracts r) (r .we) (r .«is_load») (r .«is_store») (r .«is_arith») (r .«halted_latch») in
-      let high = six-lt (r .«is_shift») (r .«is_logic») (r .«ld_byte») (r .«ld_half») (r .«ld_word») (r .«branch_taken») in
-      word-lt (pack (flags (lowFlags r))) (pack (flags (highFlags r))) _ low high (omega arith)
+  flags-lt = word-lt (pack (flags (lowFlags r))) (pack (flags (highFlags r))) _ low-lt high-lt (omega arith)
 
   lane-read : flagsWord r / 2 ^ 16 % 2 ^ 3 ≡ lane r m
   unfolding flagsWord
   lane-read =
-      let low = six-lt (subtracts r) (r .we) (r .«is_load») (r .«is_store») (r .«is_arith») (r .«halted_latch») in
-      let high = six-lt (r .«is_shift») (r .«is_logic») (r .«ld_byte») (r .«ld_half») (r .«ld_word») (r .«branch_taken») in
-      above-flags (pack (flags (lowFlags r))) (pack (flags (highFlags r))) (r .«byte_offset» % 2 ^ 3) _ low high (omega arith)
+      above-flags (pack (flags (lowFlags r))) (pack (flags (highFlags r))) (r .«byte_offset» % 2 ^ 3) _ low-lt high-lt (omega arith)
 
   op-read : busWord m % 2 ^ 7 ≡ op r m
   unfolding busWord

@@ -105,9 +105,9 @@ module _ (r : CycleRecord) (m : RomRow) (public : List ℕ) (fit : Words r) wher
     parts = written 1 0 first (blocks given derivedOf) 0 row (row-length r m public) (blocks-ordered given derivedOf)
 
     -- a run of columns that is word j, or begins it
-    stands : (column j n : ℕ) → j < 32 → n ≤ 64 → (i : ℕ) → i < n → column ≡ 64 * j
+    stands : (column j n : ℕ) → j < 32 → n ≤ 64 → column ≡ 64 * j → (i : ℕ) → i < n
         → elementAt row ((column + i) * 1 + 0) ≡ bitOf (bitAt (getD (rowWords r m) j 0) i)
-    stands column j n l k i h e = ap (elementAt row) (omega arith) ∙ at-word j i l (omega arith)
+    stands column j n l k e i h = ap (elementAt row) (omega arith) ∙ at-word j i l (omega arith)
 
     -- a flag that the filler writes as the record has it
     flag-stands : (column bit w : ℕ) (b : Bool) → bit < 64 → column ≡ 768 + bit → bitAt (flagsWord r) bit ≡ b → elementAt (filled 1 row) column ≡ bitOf b
@@ -119,15 +119,15 @@ module _ (r : CycleRecord) (m : RomRow) (public : List ℕ) (fit : Words r) wher
 
     stand-already : All (Written 1 0 first row) (blocks given derivedOf)
     stand-already =
-        (λ i h. stands 448 7 64 (omega arith) (omega arith) i h refl)
-        and (λ i h. stands 576 9 64 (omega arith) (omega arith) i h refl)
-        and (λ i h. stands 640 10 64 (omega arith) (omega arith) i h refl)
-        and (λ i h. stands 704 11 64 (omega arith) (omega arith) i h refl)
+        stands 448 7 64 (omega arith) (omega arith) refl
+        and stands 576 9 64 (omega arith) (omega arith) refl
+        and stands 640 10 64 (omega arith) (omega arith) refl
+        and stands 704 11 64 (omega arith) (omega arith) refl
         and flag-stands 773 5 _ (r .«halted_latch») (omega arith) refl (halt-read r m) halts (parts .1 .1 .1 .1 .0)
         and flag-stands 779 11 _ (r .«branch_taken») (omega arith) refl (taken-read r m) takes (parts .1 .1 .1 .1 .1 .0)
-        and (λ i h. stands 896 14 58 (omega arith) (omega arith) i h refl)
-        and (λ i h. stands 1024 16 64 (omega arith) (omega arith) i h refl)
-        and (λ i h. stands 1088 17 39 (omega arith) (omega arith) i h refl)
+        and stands 896 14 58 (omega arith) (omega arith) refl
+        and stands 1024 16 64 (omega arith) (omega arith) refl
+        and stands 1088 17 39 (omega arith) (omega arith) refl
         and tt
 
     keeps : filled 1 row ≡ row

@@ -1,5 +1,5 @@
--- The made row by words: 18 words of 64 columns hold all of its fields. The given ones come from the record and the ROM row, and the derived
--- ones are those that the filler works out of them.
+-- The made row by words: 18 words of 64 columns hold all of its fields. The given ones come from the record and the ROM row, and the
+-- derived ones are those that the filler works out of them.
 -- Assumes nothing.
 use mathlib.Core.Path.{_≡_, ap, ap₂, _∙_}
 use mathlib.Core.Bool.{Bool, true, false, cond}
@@ -68,18 +68,22 @@ busWord m =
     m .raw % 2 ^ 7
     + 2 ^ 7 * (busRd (m .rd) % 2 ^ 6 + 2 ^ 6 * (m .rs1 % 2 ^ 6 + 2 ^ 6 * (m .rs2 % 2 ^ 6 + 2 ^ 6 * (m .funct3 % 2 ^ 3 + 2 ^ 3 * (m .imm % 2 ^ 13)))))
 
-abbrev pub givenWords : CycleRecord → RomRow → GivenWords
-givenWords r m =
+-- the words as the record has them, and four that are worked out
+abbrev pub givenOf : CycleRecord → ℕ → ℕ → ℕ → ℕ → GivenWords
+givenOf r t2 alu flags fetch =
     record {
       rs1 = r .«rs1_val»;
       rs2 = r .«rs2_val»;
       load = r .«ram_word»;
       t1 = r .«alu_a»;
-      t2 = secondOperand r;
-      alu = aluOf r;
-      flags = flagsWord r;
-      fetch = busWord m;
+      t2 = t2;
+      alu = alu;
+      flags = flags;
+      fetch = fetch;
     }
+
+abbrev pub givenWords : CycleRecord → RomRow → GivenWords
+givenWords r m = givenOf r (secondOperand r) (aluOf r) (flagsWord r) (busWord m)
 
 -- ---- all 18
 
