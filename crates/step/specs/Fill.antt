@@ -7,6 +7,7 @@ pub mod Fields
 pub mod Lanes
 pub mod Derive
 pub mod Holds
+pub mod ByBit
 pub mod AdderRows
 pub mod LaneRows
 pub mod BranchRows

@@ -4,11 +4,8 @@ use mathlib.Core.Path.{_≡_, refl, sym, ap, ap₂, fun-ext, _∙_}
 use mathlib.Core.Bool.{Bool, true, false}
 use mathlib.Core.List.{List, [], _∷_}
 use Prim.Native.Nat.{ℕ, _+_, _*_, _-_, _/_, _%_, _^_, _<_}
-use native.Mathlib.Nat.{mod-lt, mod-eq-of-lt}
 use native.Mathlib.Omega.{arith}
-use lib.Bits.{bitXor}
-use lib.Pow.{pow-pos}
-use Rattle.field.specs.Sums.{digit}
+use Rattle.field.specs.Sums.{digit, val}
 use Rattle.layout.specs.Columns.{FLAGS, FETCH, EQA, OPSYS}
 use Rattle.circuit.specs.Rows.{from}
 use Rattle.field.specs.Sums.Laws.{digit-lt}
@@ -16,18 +13,19 @@ use Rattle.step.specs.declared.derive.Flags.{Flags}
 use Rattle.step.specs.declared.derive.Tops.{Tops}
 use Rattle.step.specs.declared.derive.DerivedWords.{DerivedWords}
 use Rattle.step.specs.Fill.Bits.{bitAt, bit-digit}
-use Rattle.step.specs.Fill.Fields.{flags, pack, gated-lt}
-use Rattle.step.specs.Fill.Lanes.{next, hot-lt, pair-lt}
-use Rattle.step.specs.Fill.Derive.{carryWord, runWord, laneWord, compareWord, branchWord}
+use Rattle.step.specs.Fill.Fields.{flags, pack}
+use Rattle.step.specs.Fill.Holds.{_and_}
+use Rattle.step.specs.Fill.Derive.{carryWord, opcodeRun, laneWord, compareWord, branchWord}
+use Rattle.step.specs.Fill.ByBit.{two-of-three, carry-bits, run-bits, opcode-field, hot-field, pair-field, gated-field, one-of-two, xor-true, either}
 use Rattle.step.specs.Fill.Words.{flagsOf, topsOf, derivedWords}
 use Rattle.step.specs.FieldBits.{columnBit}
 use Rattle.witness.specs.declared.records.CycleRecord.{CycleRecord}
 use Rattle.witness.specs.declared.records.RomRow.{RomRow}
 use Rattle.witness.specs.Packed.{packed}
-use Rattle.witness.specs.Groups.{Carries, CarriesEach, inGroups, alone-carried, none-carried, packed-carried, table-bit}
-use Rattle.witness.specs.Table.{subtracts, secondOperand, aluOf, carryOf, lane, op, f3, flagGroup, busGroup, laneGroup, branchGroup, table}
+use Rattle.witness.specs.Groups.{Carries, CarriesEach, inGroups, alone-carried, bits-carried, none-carried, packed-carried, table-bit}
+use Rattle.witness.specs.Table.{subtracts, secondOperand, aluOf, carryInto, allTo, zeroTo, alikeTo, lane, nextLane, op, f3, flagGroup, busGroup, laneGroup, branchGroup, table}
 use Rattle.witness.specs.Row.{rowBit, rowWord, madeRow}
-use Rattle.witness.specs.RowWords.{lowFlags, highFlags, flagsWord, busWord, givenWords, rowWords, bitIn}
+use Rattle.witness.specs.RowWords.{Words, second-lt, alu-lt, lowFlags, highFlags, flagsWord, busWord, givenWords, rowWords, bitIn}
 
 digit-cut : (b : Bool) → digit b % 2 ≡ digit b
 digit-cut true = refl
@@ -92,19 +90,20 @@ module _ (r : CycleRecord) (m : RomRow) where
   unfolding columnBit
   taken-read = flag 11 (r .«branch_taken») (omega arith) refl
 
+  low-lt : pack (flags (lowFlags r)) < 64
+  low-lt = six-lt (subtracts r) (r .we) (r .«is_load») (r .«is_store») (r .«is_arith») (r .«halted_latch»)
+
+  high-lt : pack (flags (highFlags r)) < 64
+  high-lt = six-lt (r .«is_shift») (r .«is_logic») (r .«ld_byte») (r .«ld_half») (r .«ld_word») (r .«branch_taken»)
+
   pub flags-lt : flagsWord r < 2 ^ 64
   unfolding flagsWord
-  flags-lt =
-      let low = six-lt (subtracts r) (r .we) (r .«is_load») (r .«is_store») (r .«is_arith») (r .«halted_latch») in
-      let high = six-lt (r .«is_shift») (r .«is_logic») (r .«ld_byte») (r .«ld_half») (r .«ld_word») (r .«branch_taken») in
-      word-lt (pack (flags (lowFlags r))) (pack (flags (highFlags r))) _ low high (omega arith)
+  flags-lt = word-lt (pack (flags (lowFlags r))) (pack (flags (highFlags r))) _ low-lt high-lt (omega arith)
 
   lane-read : flagsWord r / 2 ^ 16 % 2 ^ 3 ≡ lane r m
   unfolding flagsWord
   lane-read =
-      let low = six-lt (subtracts r) (r .we) (r .«is_load») (r .«is_store») (r .«is_arith») (r .«halted_latch») in
-      let high = six-lt (r .«is_shift») (r .«is_logic») (r .«ld_byte») (r .«ld_half») (r .«ld_word») (r .«branch_taken») in
-      above-flags (pack (flags (lowFlags r))) (pack (flags (highFlags r))) (r .«byte_offset» % 2 ^ 3) _ low high (omega arith)
+      above-flags (pack (flags (lowFlags r))) (pack (flags (highFlags r))) (r .«byte_offset» % 2 ^ 3) _ low-lt high-lt (omega arith)
 
   op-read : busWord m % 2 ^ 7 ≡ op r m
   unfolding busWord
@@ -116,111 +115,106 @@ module _ (r : CycleRecord) (m : RomRow) where
 
   -- ---- the derived words
 
-  lane-lt : lane r m < 8
-  lane-lt = omega arith
+  abbrev derivedOf : DerivedWords
+  derivedOf = derivedWords (givenWords r m)
 
   lanes-packed : laneWord (lane r m) gateFlags ≡ packed EQA (laneGroup r m)
   unfolding laneWord packed
   lanes-packed =
       let x = lane r m in
-      let here = hot-lt x lane-lt in
-      let after = hot-lt (next x) (omega arith) in
-      let at = mod-eq-of-lt here in
-      let at2 = mod-eq-of-lt (pair-lt x) in
-      let at3 = mod-eq-of-lt after in
-      let at4 = mod-eq-of-lt (pair-lt (next x)) in
-      let at5 = mod-eq-of-lt (gated-lt (r .«ld_byte») _ _ here) in
-      let at6 = mod-eq-of-lt (gated-lt (r .«ld_half») _ _ here) in
-      let at7 = mod-eq-of-lt (gated-lt (r .«ld_half») _ _ after) in
-      simp (digit-cut, at, at2, at3, at4, at5, at6, at7) (omega arith)
+      let y = nextLane r m in
+      let x-lt : x < 8 = omega arith in
+      let y-lt : y < 8 = omega arith in
+      let eqa = hot-field x x-lt in
+      let pa = pair-field x x-lt in
+      let eqb = hot-field y y-lt in
+      let pb = pair-field y y-lt in
+      let ca = gated-field x x-lt (r .«ld_byte») in
+      let ch = gated-field x x-lt (r .«ld_half») in
+      let ch2 = gated-field y y-lt (r .«ld_half») in
+      simp (digit-cut, eqa, pa, eqb, pb, ca, ch, ch2) (omega arith)
 
-  abbrev topBits : Tops
-  topBits = topsOf (givenWords r m) (carryOf r) (runWord (aluOf r))
+  -- ---- of a record whose words are words
 
-  branches-packed : branchWord (op r m) (f3 r m) topBits gateFlags ≡ packed OPSYS (branchGroup r m)
-  unfolding branchWord compareWord packed
-  branches-packed =
-      let system = mod-eq-of-lt (mod-lt (runWord (bitXor (op r m) 0x73)) (pow-pos 7)) in
-      let branch = mod-eq-of-lt (mod-lt (runWord (bitXor (op r m) 0x63)) (pow-pos 7)) in
-      let low = mod-eq-of-lt (pair-lt (f3 r m)) in
-      let all = mod-eq-of-lt (hot-lt (f3 r m) (omega arith)) in
-      simp (digit-cut, system, branch, low, all) (omega arith)
+  module _ (fit : Words r) where
+    carry-is : (i : ℕ) → i < 64 → bitAt (derivedOf .carry) i ≡ carryInto r i
+    unfolding carryInto
+    carry-is i l =
+        ap (λ (b : Bool). bitAt (carryWord (r .«alu_a») (secondOperand r) (digit b)) i) subtract-read
+        ∙ carry-bits (r .«alu_a») (secondOperand r) (carryInto r)
+        (λ j k. two-of-three (bitAt (r .«alu_a») j) (bitAt (secondOperand r) j) (carryInto r j)) (fit .first) (second-lt r fit) i l
 
-  abbrev derivedOf : DerivedWords
-  derivedOf = derivedWords (givenWords r m)
+    zeros-are : (i : ℕ) → i < 64 → bitAt (derivedOf .zeros) i ≡ zeroTo r i
+    unfolding allTo
+    zeros-are i l = run-bits (aluOf r) (alu-lt r fit) 63 (omega arith) _ (zeroTo r) refl (λ i l. refl) (λ i l. refl) i (omega arith)
 
-  carry-is : derivedOf .carry ≡ carryOf r
-  carry-is = ap (λ (b : Bool). carryWord (r .«alu_a») (secondOperand r) (digit b)) subtract-read
+    abbrev topBits : Tops
+    topBits =
+        record {
+          rs1 = bitAt (r .«rs1_val») 63;
+          rs2 = bitAt (r .«rs2_val») 63;
+          alu = bitAt (aluOf r) 63;
+          t1 = bitAt (r .«alu_a») 63;
+          t2 = bitAt (secondOperand r) 63;
+          carry = carryInto r 63;
+          zero = zeroTo r 63;
+        }
 
-  lanes-are : derivedOf .lanes ≡ packed EQA (laneGroup r m)
-  lanes-are = ap₂ laneWord lane-read flags-read ∙ lanes-packed
+    tops-read : topsOf (givenWords r m) (derivedOf .carry) (derivedOf .zeros) ≡ topBits
+    tops-read = cc (carry-is 63 (omega arith), zeros-are 63 (omega arith))
 
-  branches-are : derivedOf .branches ≡ packed OPSYS (branchGroup r m)
-  branches-are = cc (op-read, f3-read, carry-is, flags-read, branches-packed)
+    chain-field : (k : ℕ) → k < 2 ^ 7 → val (alikeTo (op r m) k) 7 % 2 ^ 7 ≡ opcodeRun (op r m) k
+    unfolding allTo
+    chain-field k l = opcode-field (op r m) k (omega arith) l (alikeTo (op r m) k) (refl, λ i h. refl)
 
-  pub carries-each : CarriesEach 0 (table r m) (rowWords r m)
-  unfolding table
-  carries-each = (
-    alone-carried _ _,
-    (
-      alone-carried _ _,
-      (
-        alone-carried _ _,
-        (
-          alone-carried _ _,
-          (
-            alone-carried _ _,
-            (
-              alone-carried _ _,
-              (
-                alone-carried _ _,
-                (
-                  λ i l. ap (λ (w : ℕ). bitAt w i) carry-is ∙ alone-carried _ (carryOf r) i l,
-                  (
-                    alone-carried _ _,
-                    (
-                      alone-carried _ _,
-                      (
-                        alone-carried _ _,
-                        (
-                          alone-carried _ _,
-                          (
-                            flags-carried,
-                            (
-                              bus-carried,
-                              (
-                                packed-carried EQA (EQA + 64) (laneGroup r m) _ refl lanes-are,
-                                (
-                                  none-carried _,
-                                  (
-                                    alone-carried _ _,
-                                    (
-                                      packed-carried OPSYS (OPSYS + 64) (branchGroup r m) _ refl branches-are,
-                                      tt,
-                                    ),
-                                  ),
-                                ),
-                              ),
-                            ),
-                          ),
-                        ),
-                      ),
-                    ),
-                  ),
-                ),
-              ),
-            ),
-          ),
-        ),
-      ),
-    ),
-  )
+    branches-packed : branchWord (op r m) (f3 r m) topBits gateFlags ≡ packed OPSYS (branchGroup r m)
+    unfolding branchWord compareWord packed
+    branches-packed =
+        let x = f3 r m in
+        let x-lt : x < 8 = omega arith in
+        let opsys = chain-field 0x73 (omega arith) in
+        let opbr = chain-field 0x63 (omega arith) in
+        let eqfm = pair-field x x-lt in
+        let eqf = hot-field x x-lt in
+        let ceq = one-of-two x x-lt 0 1 refl in
+        let clt = one-of-two x x-lt 4 5 refl in
+        let clu = one-of-two x x-lt 6 7 refl in
+        simp (digit-cut, opsys, opbr, eqfm, eqf, xor-true, either, ceq, clt, clu) (omega arith)
 
-  pub words-bits : (c : ℕ) → bitIn (rowWords r m) c ≡ rowBit r m c
-  unfolding rowBit
-  words-bits c = sym (table-bit (table r m) (rowWords r m) in-groups carries-each c)
+    lanes-are : derivedOf .lanes ≡ packed EQA (laneGroup r m)
+    lanes-are = ap₂ laneWord lane-read flags-read ∙ lanes-packed
 
-  -- written by words, the row is the table's
-  pub made-by-words : (public : List ℕ) → from 0 8192 (rowWord (bitIn (rowWords r m)) public) ≡ madeRow r m public
-  unfolding madeRow
-  made-by-words public = ap (λ (bit : ℕ → Bool). from 0 8192 (rowWord bit public)) (fun-ext words-bits)
+    branches-are : derivedOf .branches ≡ packed OPSYS (branchGroup r m)
+    branches-are = cc (op-read, f3-read, tops-read, flags-read, branches-packed)
+
+    pub carries-each : CarriesEach 0 (table r m) (rowWords r m)
+    unfolding table
+    carries-each =
+        alone-carried _ _
+        and alone-carried _ _
+        and alone-carried _ _
+        and alone-carried _ _
+        and alone-carried _ _
+        and alone-carried _ _
+        and alone-carried _ _
+        and bits-carried _ _ _ carry-is
+        and alone-carried _ _
+        and alone-carried _ _
+        and alone-carried _ _
+        and alone-carried _ _
+        and flags-carried
+        and bus-carried
+        and packed-carried EQA (EQA + 64) (laneGroup r m) _ refl lanes-are
+        and none-carried _
+        and bits-carried _ _ _ zeros-are
+        and packed-carried OPSYS (OPSYS + 64) (branchGroup r m) _ refl branches-are
+        and tt
+
+    pub words-bits : (c : ℕ) → bitIn (rowWords r m) c ≡ rowBit r m c
+    unfolding rowBit
+    words-bits c = sym (table-bit (table r m) (rowWords r m) in-groups carries-each c)
+
+    -- written by words, the row is the table's
+    pub made-by-words : (public : List ℕ) → from 0 8192 (rowWord (bitIn (rowWords r m)) public) ≡ madeRow r m public
+    unfolding madeRow
+    made-by-words public = ap (λ (bit : ℕ → Bool). from 0 8192 (rowWord bit public)) (fun-ext words-bits)

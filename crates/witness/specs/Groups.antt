@@ -6,9 +6,10 @@ use mathlib.Core.List.{List, [], _∷_, _++_}
 use Prim.Native.Nat.{ℕ, zero, suc, _+_, _*_, _-_, _/_, _%_, _≤_, _<_}
 use native.Mathlib.Omega.{arith}
 use lib.ListN.{getD}
+use Rattle.field.specs.Sums.{val}
 use Rattle.layout.specs.Questions.{both}
 use Rattle.layout.specs.Lists.{joined}
-use Rattle.step.specs.Fill.Bits.{bitAt, no-bit}
+use Rattle.step.specs.Fill.Bits.{bitAt, bit-val, no-bit}
 use Rattle.step.specs.Fill.Blocks.{Block, block, inBlock, between, goes-on, ends}
 use Rattle.step.specs.FieldBits.{columnBit, inside, behind, nothing-before}
 use Rattle.witness.specs.Packed.{packed, packed-bit}
@@ -76,6 +77,10 @@ table-bit kss ws t h c = ap (columnBit (joined kss)) (omega arith) ∙ from-word
 
 pub alone-carried : (o w : ℕ) → Carries o (block o 64 w ∷ []) w
 alone-carried o w i l = ap (bitAt w) (omega arith) ∙ sym (inside (block o 64 w) [] (o + i) (omega arith) (omega arith))
+
+-- a word that has the bits that a field says one by one
+pub bits-carried : (o w : ℕ) (f : ℕ → Bool) → ((i : ℕ) → i < 64 → bitAt w i ≡ f i) → Carries o (block o 64 (val f 64) ∷ []) w
+bits-carried o w f h i l = h i l ∙ sym (bit-val f 64 i l) ∙ alone-carried o (val f 64) i l
 
 pub none-carried : (o : ℕ) → Carries o [] 0
 unfolding columnBit

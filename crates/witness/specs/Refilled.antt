@@ -2,17 +2,14 @@
 -- derived ones stand there already.
 -- Assumes nothing.
 use mathlib.Core.Path.{_≡_, refl, sym, ap, ap₂, _∙_}
-use mathlib.Core.Bool.{Bool, true, false, not, cond, _&&_}
+use mathlib.Core.Bool.{Bool, false, not, _&&_}
 use mathlib.Core.List.{List}
 use Prim.Native.Nat.{ℕ, _+_, _*_, _-_, _/_, _%_, _^_, _≤_, _<_}
-use native.Mathlib.Nat.{mod-lt}
 use native.Mathlib.Omega.{arith}
 use lib.Dec.{eqb}
 use lib.ListN.{getD}
-use lib.Pow.{pow-pos}
 use Rattle.field.specs.declared.Gf128.{Gf128}
 use Rattle.field.specs.Gf.{low}
-use Rattle.field.specs.Sums.{digit}
 use Rattle.field.specs.Sums.Laws.{val-same}
 use Rattle.field.specs.Gf.Bits.{bitOf, low-bit}
 use Rattle.layout.specs.Columns.{HALT, TAKEN}
@@ -33,26 +30,17 @@ use Rattle.step.specs.Fill.{faulty, after, called}
 use Rattle.step.specs.Fill.Answers.{Passed, passed-all}
 use Rattle.step.specs.Fill.Bits.{bitAt}
 use Rattle.step.specs.Fill.Blocks.{block, Written, putBlocks, written, blocks-again}
+use Rattle.step.specs.Fill.Holds.{_and_}
 use Rattle.step.specs.Fill.Cycle.{blocks-ordered}
 use Rattle.step.specs.Fill.Cycles.{all-cycles}
 use Rattle.step.specs.Fill.Words as filler
 use Rattle.step.specs.Fill.Words.{wordAt, derivedWords, blocks, fillCycle, fillCycles}
 use Rattle.witness.specs.declared.records.CycleRecord.{CycleRecord}
 use Rattle.witness.specs.declared.records.RomRow.{RomRow}
-use Rattle.witness.specs.Table.{subtracts, secondOperand}
 use Rattle.witness.specs.Row.{madeRow}
-use Rattle.witness.specs.RowWords.{flagsWord, busWord, givenWords, rowWords}
+use Rattle.witness.specs.RowWords.{Words, second-lt, alu-lt, flagsWord, busWord, givenWords, rowWords}
 use Rattle.witness.specs.Carried.{words-bits, halt-read, taken-read, flags-lt}
 use Rattle.witness.specs.MadeRow.{row-length, bit-at, one-is, not-above}
-
--- a record as it is handed over, whose words are words
-pub record Words (r : CycleRecord) : Type 0 where
-  pub rs1 : r .«rs1_val» < 2 ^ 64
-  pub rs2 : r .«rs2_val» < 2 ^ 64
-  pub load : r .«ram_word» < 2 ^ 64
-  pub first : r .«alu_a» < 2 ^ 64
-  pub second : r .«alu_b» < 2 ^ 64
-  pub out : r .«alu_out» < 2 ^ 64
 
 module _ (r : CycleRecord) (m : RomRow) (public : List ℕ) (fit : Words r) where
   abbrev row : List ℕ
@@ -72,7 +60,8 @@ module _ (r : CycleRecord) (m : RomRow) (public : List ℕ) (fit : Words r) wher
       let word-of : (64 * j + i) / 64 ≡ j = omega arith in
       let bit-of : (64 * j + i) % 64 ≡ i = omega arith in
       bit-at r m public (64 * j + i) (omega arith)
-      ∙ ap (λ (b : Bool). bitOf b) (sym (words-bits r m (64 * j + i)) ∙ ap₂ (λ (w b : ℕ). bitAt (getD (rowWords r m) w 0) b) word-of bit-of)
+      ∙ ap (λ (b : Bool). bitOf b)
+      (sym (words-bits r m fit (64 * j + i)) ∙ ap₂ (λ (w b : ℕ). bitAt (getD (rowWords r m) w 0) b) word-of bit-of)
 
   read-back : (j : ℕ) → j < 32 → getD (rowWords r m) j 0 < 2 ^ 64 → wordAt 1 row 0 (64 * j) ≡ getD (rowWords r m) j 0
   unfolding wordAt bitsOf cycleOf
@@ -82,14 +71,6 @@ module _ (r : CycleRecord) (m : RomRow) (public : List ℕ) (fit : Words r) wher
       (ap (elementAt row) (witness-column 1 (64 * j + i) 0 (omega arith) ∙ omega arith) ∙ at-word j i l k)
       ∙ low-bit (bitAt (getD (rowWords r m) j 0) i))
       ∙ val-bits 64 (getD (rowWords r m) j 0) h
-
-  flipped-lt : (b : Bool) → cond b (2 ^ 64 - 1 - r .«alu_b») (r .«alu_b») < 2 ^ 64
-  flipped-lt true = omega arith
-  flipped-lt false = fit .second
-
-  sum-lt : (b : Bool) (n : ℕ) → cond b (n % 2 ^ 64) (r .«alu_out») < 2 ^ 64
-  sum-lt true n = mod-lt n (pow-pos 64)
-  sum-lt false n = fit .out
 
   bus-lt : busWord m < 2 ^ 64
   unfolding busWord
@@ -102,8 +83,8 @@ module _ (r : CycleRecord) (m : RomRow) (public : List ℕ) (fit : Words r) wher
         read-back 1 (omega arith) (fit .rs2),
         read-back 3 (omega arith) (fit .load),
         read-back 5 (omega arith) (fit .first),
-        read-back 6 (omega arith) (flipped-lt (subtracts r)),
-        read-back 8 (omega arith) (sum-lt (r .«is_arith») (r .«alu_a» + secondOperand r + digit (subtracts r))),
+        read-back 6 (omega arith) (second-lt r fit),
+        read-back 8 (omega arith) (alu-lt r fit),
         read-back 12 (omega arith) (flags-lt r m),
         read-back 13 (omega arith) bus-lt,
       )
@@ -124,9 +105,9 @@ module _ (r : CycleRecord) (m : RomRow) (public : List ℕ) (fit : Words r) wher
     parts = written 1 0 first (blocks given derivedOf) 0 row (row-length r m public) (blocks-ordered given derivedOf)
 
     -- a run of columns that is word j, or begins it
-    stands : (column j n : ℕ) → j < 32 → n ≤ 64 → (i : ℕ) → i < n → column ≡ 64 * j
+    stands : (column j n : ℕ) → j < 32 → n ≤ 64 → column ≡ 64 * j → (i : ℕ) → i < n
         → elementAt row ((column + i) * 1 + 0) ≡ bitOf (bitAt (getD (rowWords r m) j 0) i)
-    stands column j n l k i h e = ap (elementAt row) (omega arith) ∙ at-word j i l (omega arith)
+    stands column j n l k e i h = ap (elementAt row) (omega arith) ∙ at-word j i l (omega arith)
 
     -- a flag that the filler writes as the record has it
     flag-stands : (column bit w : ℕ) (b : Bool) → bit < 64 → column ≡ 768 + bit → bitAt (flagsWord r) bit ≡ b → elementAt (filled 1 row) column ≡ bitOf b
@@ -137,34 +118,17 @@ module _ (r : CycleRecord) (m : RomRow) (public : List ℕ) (fit : Words r) wher
         ∙ ap (λ (u : List ℕ). elementAt u column) by-blocks ∙ ap (elementAt (putBlocks 1 0 (blocks given derivedOf) row)) (sym here) ∙ p i k
 
     stand-already : All (Written 1 0 first row) (blocks given derivedOf)
-    stand-already = (
-      λ i h. stands 448 7 64 (omega arith) (omega arith) i h refl,
-      (
-        λ i h. stands 576 9 64 (omega arith) (omega arith) i h refl,
-        (
-          λ i h. stands 640 10 64 (omega arith) (omega arith) i h refl,
-          (
-            λ i h. stands 704 11 64 (omega arith) (omega arith) i h refl,
-            (
-              flag-stands 773 5 _ (r .«halted_latch») (omega arith) refl (halt-read r m) halts (parts .1 .1 .1 .1 .0),
-              (
-                flag-stands 779 11 _ (r .«branch_taken») (omega arith) refl (taken-read r m) takes (parts .1 .1 .1 .1 .1 .0),
-                (
-                  λ i h. stands 896 14 58 (omega arith) (omega arith) i h refl,
-                  (
-                    λ i h. stands 1024 16 64 (omega arith) (omega arith) i h refl,
-                    (
-                      λ i h. stands 1088 17 39 (omega arith) (omega arith) i h refl,
-                      tt,
-                    ),
-                  ),
-                ),
-              ),
-            ),
-          ),
-        ),
-      ),
-    )
+    stand-already =
+        stands 448 7 64 (omega arith) (omega arith) refl
+        and stands 576 9 64 (omega arith) (omega arith) refl
+        and stands 640 10 64 (omega arith) (omega arith) refl
+        and stands 704 11 64 (omega arith) (omega arith) refl
+        and flag-stands 773 5 _ (r .«halted_latch») (omega arith) refl (halt-read r m) halts (parts .1 .1 .1 .1 .0)
+        and flag-stands 779 11 _ (r .«branch_taken») (omega arith) refl (taken-read r m) takes (parts .1 .1 .1 .1 .1 .0)
+        and stands 896 14 58 (omega arith) (omega arith) refl
+        and stands 1024 16 64 (omega arith) (omega arith) refl
+        and stands 1088 17 39 (omega arith) (omega arith) refl
+        and tt
 
     keeps : filled 1 row ≡ row
     keeps = by-blocks ∙ blocks-again 1 0 first (blocks given derivedOf) 0 row (row-length r m public) (blocks-ordered given derivedOf) stand-already

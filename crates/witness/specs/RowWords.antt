@@ -1,14 +1,16 @@
--- The made row by words: 18 words of 64 columns hold all of its fields. The given ones come from the record and the ROM row, and the derived
--- ones are those that the filler works out of them.
+-- The made row by words: 18 words of 64 columns hold all of its fields. The given ones come from the record and the ROM row, and the
+-- derived ones are those that the filler works out of them.
 -- Assumes nothing.
 use mathlib.Core.Path.{_≡_, ap, ap₂, _∙_}
-use mathlib.Core.Bool.{Bool, true, cond}
+use mathlib.Core.Bool.{Bool, true, false, cond}
 use mathlib.Core.List.{List, [], _∷_}
 use Prim.Native.Nat.{ℕ, _+_, _*_, _-_, _/_, _%_, _^_, _≤_, _<_}
+use native.Mathlib.Nat.{mod-lt}
 use native.Mathlib.Omega.{arith}
 use borrow.Author.Tests.{eq-eqb, ne-eqb}
 use lib.Dec.{eqb}
 use lib.ListN.{getD}
+use lib.Pow.{pow-pos}
 use Rattle.field.specs.Sums.{digit}
 use Rattle.layout.specs.Questions.{passed, refused}
 use Rattle.step.specs.declared.derive.GivenWords.{GivenWords}
@@ -21,6 +23,30 @@ use Rattle.witness.specs.declared.records.CycleRecord.{CycleRecord}
 use Rattle.witness.specs.declared.records.RomRow.{RomRow}
 use Rattle.witness.specs.Table.{subtracts, secondOperand, aluOf, busRd}
 use Rattle.witness.specs.Row.{bitWord}
+
+-- a record as it is handed over, whose words are words
+pub record Words (r : CycleRecord) : Type 0 where
+  pub rs1 : r .«rs1_val» < 2 ^ 64
+  pub rs2 : r .«rs2_val» < 2 ^ 64
+  pub load : r .«ram_word» < 2 ^ 64
+  pub first : r .«alu_a» < 2 ^ 64
+  pub second : r .«alu_b» < 2 ^ 64
+  pub out : r .«alu_out» < 2 ^ 64
+
+module _ (r : CycleRecord) (fit : Words r) where
+  pub second-lt : secondOperand r < 2 ^ 64
+  second-lt = flipped (subtracts r)
+    where
+      flipped : (b : Bool) → cond b (2 ^ 64 - 1 - r .«alu_b») (r .«alu_b») < 2 ^ 64
+      flipped true = omega arith
+      flipped false = fit .second
+
+  pub alu-lt : aluOf r < 2 ^ 64
+  alu-lt = wraps (r .«is_arith») (r .«alu_a» + secondOperand r + digit (subtracts r))
+    where
+      wraps : (b : Bool) (n : ℕ) → cond b (n % 2 ^ 64) (r .«alu_out») < 2 ^ 64
+      wraps true n = mod-lt n (pow-pos 64)
+      wraps false n = fit .out
 
 -- ---- the given words
 
@@ -42,18 +68,22 @@ busWord m =
     m .raw % 2 ^ 7
     + 2 ^ 7 * (busRd (m .rd) % 2 ^ 6 + 2 ^ 6 * (m .rs1 % 2 ^ 6 + 2 ^ 6 * (m .rs2 % 2 ^ 6 + 2 ^ 6 * (m .funct3 % 2 ^ 3 + 2 ^ 3 * (m .imm % 2 ^ 13)))))
 
-abbrev pub givenWords : CycleRecord → RomRow → GivenWords
-givenWords r m =
+-- the words as the record has them, and four that are worked out
+abbrev pub givenOf : CycleRecord → ℕ → ℕ → ℕ → ℕ → GivenWords
+givenOf r t2 alu flags fetch =
     record {
       rs1 = r .«rs1_val»;
       rs2 = r .«rs2_val»;
       load = r .«ram_word»;
       t1 = r .«alu_a»;
-      t2 = secondOperand r;
-      alu = aluOf r;
-      flags = flagsWord r;
-      fetch = busWord m;
+      t2 = t2;
+      alu = alu;
+      flags = flags;
+      fetch = fetch;
     }
+
+abbrev pub givenWords : CycleRecord → RomRow → GivenWords
+givenWords r m = givenOf r (secondOperand r) (aluOf r) (flagsWord r) (busWord m)
 
 -- ---- all 18
 

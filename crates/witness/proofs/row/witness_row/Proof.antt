@@ -3,6 +3,7 @@
 use mathlib.Core.Path.{sym, ap, _∙_}
 use mathlib.Core.List.{List}
 use Prim.Native.Nat.{ℕ}
+use native.Mathlib.Omega.{arith}
 use denote.Ref.{now}
 use borrow.Author.Needs.{needs}
 use Rattle.layout.specs.declared.Asked.{Asked}
@@ -10,7 +11,7 @@ use Rattle.layout.specs.declared.Asked.the-variants.{Yes}
 use Rattle.circuit.specs.Rows.{from}
 use Rattle.step.specs.Fill.{after}
 use Rattle.witness.specs.Row.{rowWord, madeRow, rowCalled, row-passed}
-use Rattle.witness.specs.RowWords.{bitIn}
+use Rattle.witness.specs.RowWords.{Words, bitIn}
 use Rattle.witness.specs.Carried.{made-by-words}
 use Rattle.witness.proofs.row.witness_row.Statement.{statement}
 use Rattle.witness.proofs.row.witness_row.Tie as tie
@@ -30,11 +31,20 @@ returns-2 : tie.Need-returns-2
 unfolding rowCalled
 returns-2 c =
     let f = c .before .before in let made = f .before .before .before in let t = made .before in let k = t .before .before in
-    let a = k .before .before .before .args in
+    let start = k .before .before .before in let a = start .args in
+    let fit : Words (a .cycle) =
+    record {
+      rs1 = omega (arith, start .good);
+      rs2 = omega (arith, start .good);
+      load = omega (arith, start .good);
+      first = omega (arith, start .good);
+      second = omega (arith, start .good);
+      out = omega (arith, start .good);
+    } in
     let yes = sym (k .ask .ensures) ∙ t .enum-told .given .1 in
     ap (λ (b : List ℕ). record { answer = Yes; batch = b })
     (f .write-row .ensures ∙ ap (λ (ws : List ℕ). from 0 8192 (rowWord (bitIn ws) (now (a .public)))) (made .row-words .ensures)
-    ∙ made-by-words (a .cycle) (a .rom) (now (a .public)))
+    ∙ made-by-words (a .cycle) (a .rom) fit (now (a .public)))
     ∙ ap (λ (q : Asked). after q (madeRow (a .cycle) (a .rom) (now (a .public))) (now (a .row))) (sym yes)
 
 pub witness-row-spec : {M : Type 1} → statement M
