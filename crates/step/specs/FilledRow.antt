@@ -16,17 +16,16 @@ use Rattle.layout.specs.Questions.{refused}
 use Rattle.layout.specs.Lists.{joined, All, all-append, all-joined}
 use Rattle.circuit.specs.declared.Relation.the-variants.{Bin, Fld}
 use Rattle.circuit.specs.Rows.{Sides, Row, from, fromEach, numbered}
-use Rattle.circuit.specs.Circuit.{adderRow, copyRows, addressRow, extensionRow, agreeRow, sumRow, firstCarryRow, outputRow, binFamilies, circuitRows, circuitWords}
+use Rattle.circuit.specs.Circuit.{adderRow, copyRows, addressRow, agreeRow, sumRow, firstCarryRow, outputRow, binFamilies, circuitRows, circuitWords}
 use Rattle.circuit.specs.Parse.{rowsOf}
 use Rattle.circuit.specs.Batched.{batchRow}
 use Rattle.circuit.specs.House.{words-read, counts}
-use Rattle.circuit.specs.Families.{all-from}
 use Rattle.verdict.specs.declared.Verdict.the-variants.{Accepted, Failed}
 use Rattle.verdict.specs.declared.CheckAnswer.the-variants.{Judged}
 use Rattle.verdict.specs.Row.{cycleOf, holds}
 use Rattle.verdict.specs.OverBits.{plain}
 use Rattle.verdict.specs.Depends.{named}
-use Rattle.verdict.specs.Check.{Constraint, constraints, met, run, judged, after, checked}
+use Rattle.verdict.specs.Check.{Constraint, constraints, met, run, judged, checked}
 use Rattle.verdict.specs.Verdicts.{Met, run-past, accepts}
 use Rattle.verdict.specs.Sheet.{checked-is}
 use Rattle.step.specs.Words.{_⊻_, word, bitsOf}
@@ -37,9 +36,9 @@ use Rattle.step.specs.Solve.{Holds}
 use Rattle.step.specs.Determining.{beforeHalt, determiningFamilies, determining}
 use Rattle.step.specs.Determined.{Determined}
 use Rattle.step.specs.Given.{SameGiven, same-word}
-use Rattle.step.specs.BinRows.{address-row, extension-row, one-halt, bin-parts}
+use Rattle.step.specs.BinRows.{address-row, one-halt, bin-parts}
 use Rattle.step.specs.FieldRows.{bin-row, agree-row, sum-row, output-row}
-use Rattle.step.specs.Cycle.{OfBits, all-bin, bin-over-bits}
+use Rattle.step.specs.Cycle.{OfBits, all-bin, bin-over-bits, address-rows, extension-rows}
 use Rattle.step.specs.Filling.{fillerBits, filled}
 use Rattle.step.specs.Placed.{filling-length}
 use Rattle.step.specs.Demand3.{Premises}
@@ -145,11 +144,9 @@ module _ (cs : List ℕ) (n : ℕ) (row : List ℕ) (h : Holding cs n row) (t : 
         (bin-parts (Holds b) .1
         (record {
           determine = one-halt b (of .one) .1 (families .1);
-          address = all-from (Holds b) 0 8 addressRow .1 (λ i _ _. address-row b (of .one) i .1 (λ e. absurd (false≢true (sym no-access ∙ e))));
-          extend16 = all-from (Holds b) 16 48 (extensionRow ZE16) .1
-              (λ k _ _. extension-row b (of .one) ZE16 k .1 (shut (not (b LD-WORD)) (facts .extend16)));
-          extend8 = all-from (Holds b) 8 8 (extensionRow ZE8) .1
-              (λ k _ _. extension-row b (of .one) ZE8 k .1 (shut (not (b LD-WORD) && not (b LD-HALF)) (facts .extend8)));
+          address = address-rows z b of (z (ONE-COL + 1)) .1 (λ e. absurd (false≢true (sym no-access ∙ e)));
+          extend16 = extension-rows z b of ZE16 16 48 .1 (shut (not (b LD-WORD)) (facts .extend16));
+          extend8 = extension-rows z b of ZE8 8 8 .1 (shut (not (b LD-WORD) && not (b LD-HALF)) (facts .extend8));
         }))))
       where
         no-access : (b IS-LOAD ⊻ b IS-STORE) ≡ false

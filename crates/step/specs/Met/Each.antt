@@ -11,14 +11,14 @@ use borrow.Author.Tests.{eqb-true, eq-eqb, not-true}
 use lib.Dec.{eqb}
 use lib.ListN.{getD}
 use Rattle.field.specs.declared.Gf128.{Gf128}
-use Rattle.field.specs.Gf.{ofWords, same}
+use Rattle.field.specs.Gf.{same}
 use Rattle.field.specs.Gf.Tests.{same-true, same-self}
-use Rattle.field.specs.Sums.{digit}
 use Rattle.field.specs.Sums.Laws.{val-lt}
-use Rattle.layout.specs.Columns.{RS1, RD, LOAD-VAL, SHIFT-OUT, T1, T2, ALU, SUB, WE, IS-LOAD, IS-STORE, IS-ARITH, IS-SHIFT, LD-BYTE, LD-HALF, LD-WORD, RAM-ADDR}
+use Rattle.layout.specs.Columns.{RD, LOAD-VAL, T1, T2, ALU, SUB, WE, IS-LOAD, IS-STORE, IS-ARITH, IS-SHIFT, LD-BYTE, LD-HALF, LD-WORD}
 use Rattle.step.specs.Words.{_⊻_, word}
-use Rattle.step.specs.Adder.{Carries, wrapping-sum}
+use Rattle.step.specs.Adder.{Carries}
 use Rattle.step.specs.Step.{opcode, offset, byte, Conditions, Condition, offset-lt}
+use Rattle.step.specs.Conditions.{arithmetic-bits}
 use Rattle.step.specs.Fill.Bits.{word-part}
 use Rattle.step.specs.Met.{wordsOf, flagsOf, _⇒_, byteOf, conditions, numbered}
 
@@ -102,10 +102,7 @@ module _ (b : ℕ → Bool) (output : Gf128) where
           also where-so (b IS-LOAD ⊻ b IS-STORE) (Iff·trans (equal _ _) (instead refl (word-part b ALU 64 3 8 (omega arith))))
           also end
 
-  -- the wrapping sum of condition 1, bit by bit: over the carries into each bit, as the carry columns hold them
-  pub arithmetic-bits : (c : ℕ → Bool) → Carries 63 (λ i. b (T1 + i)) (λ i. b (T2 + i)) c → c 0 ≡ b SUB
+  -- the test of condition 1, over the carries into each bit
+  pub arithmetic-met : (c : ℕ → Bool) → Carries 63 (λ i. b (T1 + i)) (λ i. b (T2 + i)) c → c 0 ≡ b SUB
       → (met 1 ≡ true) ↔ (b IS-ARITH ≡ true → (i : ℕ) → i < 64 → b (ALU + i) ≡ b (T1 + i) ⊻ b (T2 + i) ⊻ c i)
-  arithmetic-bits c h e =
-      let k = wrapping-sum 63 (λ i. b (T1 + i)) (λ i. b (T2 + i)) c (λ i. b (ALU + i)) h in
-      let s = ap (λ (x : Bool). (word b T1 64 + word b T2 64 + digit x) % 2 ^ 64) e in
-      Iff·trans (each-met 1) (λ g p. k .0 (g p ∙ sym s), λ g p. k .1 (g p) ∙ s)
+  arithmetic-met c h e = Iff·trans (each-met 1) (arithmetic-bits b output c h e)
