@@ -1,5 +1,5 @@
--- Theorem C: where the determining rows hold, the other rows hold exactly when the ten step conditions do. What the other rows say of a cycle
--- is the record `Others`: three of the conditions as they stand, and the rest over derived columns.
+-- Theorem C: where the determining rows hold, the other rows hold exactly when the ten step conditions do. What the other rows say of a
+-- cycle is the record `Others`: three of the conditions as they stand, and the rest over derived columns.
 -- Assumes nothing.
 use mathlib.Core.Path.{_≡_, refl, sym, ap, ap₂, subst, _∙_}
 use mathlib.Core.Logic.{_↔_}
@@ -22,13 +22,13 @@ use Rattle.step.specs.Determined.{Determined}
 abbrev pub Agree : (ℕ → Bool) → ℕ → ℕ → ℕ → ℕ → Type 0
 Agree b n x y z = b x ≡ true → (i : ℕ) → i < n → b (y + i) ≡ b (z + i)
 
+-- where it is, they are one number
+abbrev pub Same : (ℕ → Bool) → ℕ → ℕ → ℕ → ℕ → Type 0
+Same b n x y z = b x ≡ true → word b y n ≡ word b z n
+
 -- the adder's bits: each is the sum of both words' and the carry
 abbrev pub Summed : (ℕ → Bool) → Type 0
 Summed b = (i : ℕ) → i < 64 → b (ALU + i) ≡ b (T1 + i) ⊻ b (T2 + i) ⊻ b (CARRY-OFF + i)
-
--- the same of the words
-abbrev pub Same : (ℕ → Bool) → ℕ → ℕ → ℕ → ℕ → Type 0
-Same b n x y z = b x ≡ true → word b y n ≡ word b z n
 
 pub record Others (b : ℕ → Bool) (output : Gf128) : Type 0 where
   pub write : Same b 64 WNL ALU RD
@@ -45,9 +45,9 @@ pub record Others (b : ℕ → Bool) (output : Gf128) : Type 0 where
   pub address : Condition b output 10
 
 -- the wrapping sum of condition 1, bit by bit: over the carries into each bit, as the carry columns hold them
-pub arithmetic-bits : (b : ℕ → Bool) (output : Gf128) (c : ℕ → Bool) → Carries 63 (λ i. b (T1 + i)) (λ i. b (T2 + i)) c → c 0 ≡ b SUB
+pub sum-bits : (b : ℕ → Bool) (output : Gf128) (c : ℕ → Bool) → Carries 63 (λ i. b (T1 + i)) (λ i. b (T2 + i)) c → c 0 ≡ b SUB
     → Condition b output 1 ↔ (b IS-ARITH ≡ true → (i : ℕ) → i < 64 → b (ALU + i) ≡ b (T1 + i) ⊻ b (T2 + i) ⊻ c i)
-arithmetic-bits b output c h e =
+sum-bits b output c h e =
     let k = wrapping-sum 63 (λ i. b (T1 + i)) (λ i. b (T2 + i)) c (λ i. b (ALU + i)) h in
     let s = ap (λ (x : Bool). (word b T1 64 + word b T2 64 + digit x) % 2 ^ 64) e in
     (λ g p. k .0 (g p ∙ sym s), λ g p. k .1 (g p) ∙ s)
@@ -57,7 +57,7 @@ and-of p q = ap₂ _&&_ p q
 
 module _ (b : ℕ → Bool) (output : Gf128) (f : Determined b) where
   sums : Condition b output 1 ↔ (b IS-ARITH ≡ true → Summed b)
-  sums = arithmetic-bits b output (λ i. b (CARRY-OFF + i)) (f .carries) (f .first-carry)
+  sums = sum-bits b output (λ i. b (CARRY-OFF + i)) (f .carries) (f .first-carry)
 
   at-lane : (x : Bool) (k : ℕ) → offset b ≡ k → x ≡ true → (eqb (offset b) k && x) ≡ true
   at-lane x k e p = and-of (eq-eqb (offset b) k e) p
@@ -86,7 +86,7 @@ module _ (b : ℕ → Bool) (output : Gf128) (f : Determined b) where
   lane-at : (x : Bool) (k : ℕ) → (eqb (offset b) k && x) ≡ true → (offset b ≡ k) × (x ≡ true)
   lane-at x k e = let p = both (eqb (offset b) k) x e in (eqb-true (offset b) k (p .0), p .1)
 
-  -- lane j of LOAD_VAL is a byte of RD, and so is lane a, where they are one
+  -- lane j of LOAD_VAL is a byte of RD, and lane a is lane j
   lane-moves : (o : ℕ) {j a : ℕ} → j ≡ a → word b o 8 ≡ byte b LOAD-VAL j → byte b LOAD-VAL a ≡ word b o 8
   lane-moves o e h = subst (λ (k : ℕ). byte b LOAD-VAL k ≡ word b o 8) e (sym h)
 

@@ -1,5 +1,6 @@
--- Which step condition is the first that a cycle does not meet: the ten as tests of the cycle's words, in document 01's order. The laws are
--- in First: it says that all are met exactly when the record of the conditions holds. Each has the same of each condition, Read what the code reads.
+-- Which step condition is the first that a cycle does not meet: the ten of `Step` again, as the tests of a cycle's words that the code
+-- makes and its contracts cite. Each proves every test true exactly when the condition of its number holds, First that all are met
+-- exactly when the record of the conditions holds. Read has what the code reads.
 -- Assumes nothing.
 pub mod Read
 pub mod Each

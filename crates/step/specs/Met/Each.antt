@@ -18,7 +18,7 @@ use Rattle.layout.specs.Columns.{RD, LOAD-VAL, T1, T2, ALU, SUB, WE, IS-LOAD, I
 use Rattle.step.specs.Words.{_⊻_, word}
 use Rattle.step.specs.Adder.{Carries}
 use Rattle.step.specs.Step.{opcode, offset, byte, Conditions, Condition, offset-lt}
-use Rattle.step.specs.Conditions.{arithmetic-bits}
+use Rattle.step.specs.Conditions.{sum-bits}
 use Rattle.step.specs.Fill.Bits.{word-part}
 use Rattle.step.specs.Met.{wordsOf, flagsOf, _⇒_, byteOf, conditions, numbered}
 
@@ -71,12 +71,9 @@ module _ (b : ℕ → Bool) (output : Gf128) where
   unfolding byteOf
   byte-in o k l = word-part b o 64 (8 * k) 8 (omega arith)
 
-  first-byte : (eqb (byteOf (word b RD 64) 0) (byteOf (word b LOAD-VAL 64) (offset b)) ≡ true) ↔ (byte b RD 0 ≡ byte b LOAD-VAL (offset b))
-  first-byte = Iff·trans (equal _ _) (instead (byte-in RD 0 (omega arith)) (byte-in LOAD-VAL (offset b) (offset-lt b)))
-
-  next-byte : (eqb (byteOf (word b RD 64) 1) (byteOf (word b LOAD-VAL 64) ((offset b + 1) % 8)) ≡ true)
-      ↔ (byte b RD 1 ≡ byte b LOAD-VAL ((offset b + 1) % 8))
-  next-byte = Iff·trans (equal _ _) (instead (byte-in RD 1 (omega arith)) (byte-in LOAD-VAL ((offset b + 1) % 8) (omega arith)))
+  lane-so : (k j : ℕ) → k < 8 → j < 8
+      → (eqb (byteOf (word b RD 64) k) (byteOf (word b LOAD-VAL 64) j) ≡ true) ↔ (byte b RD k ≡ byte b LOAD-VAL j)
+  lane-so k j l m = Iff·trans (equal _ _) (instead (byte-in RD k l) (byte-in LOAD-VAL j m))
 
   upper : word b RD 64 / 2 ^ 16 ≡ word b (RD + 16) 48
   upper =
@@ -94,15 +91,18 @@ module _ (b : ℕ → Bool) (output : Gf128) where
           also Iff·trans (where-so (b WE && not (b IS-LOAD)) (equal _ _)) (but-not (b WE) (b IS-LOAD))
           also Iff·trans (where-so (eqb (opcode b) 0x73) (both-so _ _ (equal _ _) (same-is _ _))) (but-equal (opcode b) 0x73)
           also where-so (b LD-WORD) (equal _ _)
-          also where-so (b LD-BYTE) first-byte
-          also where-so (b LD-HALF) (both-so _ _ first-byte next-byte)
-          also Iff·trans (where-so (b IS-LOAD && not (b LD-WORD)) (Iff·trans (equal _ _) (instead upper refl))) (but-not (b IS-LOAD) (b LD-WORD))
-          also Iff·trans (where-so (b IS-LOAD && not (b LD-WORD) && not (b LD-HALF)) (Iff·trans (equal _ _) (instead (byte-in RD 1 (omega arith)) refl)))
+          also where-so (b LD-BYTE) (lane-so 0 (offset b) (omega arith) (offset-lt b))
+          also where-so (b LD-HALF)
+          (both-so _ _ (lane-so 0 (offset b) (omega arith) (offset-lt b)) (lane-so 1 ((offset b + 1) % 8) (omega arith) (omega arith)))
+          also Iff·trans (where-so (b IS-LOAD && not (b LD-WORD)) (Iff·trans (equal _ _) (instead upper refl)))
+          (but-not (b IS-LOAD) (b LD-WORD))
+          also Iff·trans
+          (where-so (b IS-LOAD && not (b LD-WORD) && not (b LD-HALF)) (Iff·trans (equal _ _) (instead (byte-in RD 1 (omega arith)) refl)))
           (Iff·trans (but-not (b IS-LOAD && not (b LD-WORD)) (b LD-HALF)) (but-not (b IS-LOAD) (b LD-WORD)))
           also where-so (b IS-LOAD ⊻ b IS-STORE) (Iff·trans (equal _ _) (instead refl (word-part b ALU 64 3 8 (omega arith))))
           also end
 
   -- the test of condition 1, over the carries into each bit
-  pub arithmetic-met : (c : ℕ → Bool) → Carries 63 (λ i. b (T1 + i)) (λ i. b (T2 + i)) c → c 0 ≡ b SUB
+  pub arithmetic-bits : (c : ℕ → Bool) → Carries 63 (λ i. b (T1 + i)) (λ i. b (T2 + i)) c → c 0 ≡ b SUB
       → (met 1 ≡ true) ↔ (b IS-ARITH ≡ true → (i : ℕ) → i < 64 → b (ALU + i) ≡ b (T1 + i) ⊻ b (T2 + i) ⊻ c i)
-  arithmetic-met c h e = Iff·trans (each-met 1) (arithmetic-bits b output c h e)
+  arithmetic-bits c h e = Iff·trans (each-met 1) (sum-bits b output c h e)
