@@ -1,14 +1,17 @@
 -- P5's row of the bench sheet, in which only the one column is 1, with 1 in more columns and a number in the public element, as P6 to P9
 -- have it: what stands in it, and which derived columns of P5's own hold 1 once it is filled.
 -- Assumes nothing.
-use mathlib.Core.Path.{_≡_, refl, sym, ap, _∙_}
+use mathlib.Core.Path.{_≡_, refl, sym, ap, ap₂, _∙_}
 use mathlib.Core.Bool.{Bool, true, false, cond, _||_, true≢false, false≢true}
 use mathlib.Core.List.{List, [], _∷_, _++_}
-use Prim.Native.Nat.{ℕ, zero, suc, _+_, _/_, _%_, _^_}
-use borrow.Author.Tests.{eqb-true}
+use Prim.Native.Nat.{ℕ, zero, suc, _+_, _*_, _/_, _%_, _^_, _≤_, _<_}
+use native.Mathlib.Nat.{pow-suc}
+use native.Mathlib.Omega.{arith}
+use borrow.Author.Tests.{eqb-true, eqb-false, eq-eqb, ne-eqb}
 use lib.Dec.{eqb}
 use Rattle.field.specs.Gf.{ofWords}
-use Rattle.field.specs.Sums.{digit}
+use Rattle.field.specs.Sums.{digit, val}
+use Rattle.field.specs.Sums.Laws.{val-same}
 use Rattle.field.specs.Gf.Bits.{bitOf}
 use Rattle.layout.specs.Columns.{ONE-COL, RS1, RD, T1, T2, ALU, SUB, WE, IS-SHIFT, LD-BYTE, LD-HALF, LD-WORD}
 use Rattle.verdict.specs.Row.{elementAt}
@@ -26,6 +29,46 @@ use Rattle.step.specs.Ones.{has, withOnes, withOutput, Holding, holding-
 unfoldable pub number : ℕ → ℕ → ℕ → List ℕ
 number c zero n = []
 number c (suc w) n = cond (eqb (n % 2) 1) (c ∷ []) [] ++ number (suc c) w (n / 2)
+
+-- a column put before a list, or not
+put-at : (t : Bool) (c : ℕ) (cs : List ℕ) → has cs c ≡ false → has (cond t (c ∷ []) [] ++ cs) c ≡ t
+unfolding has
+put-at true c cs e = ap (λ (k : Bool). k || has cs c) (eq-eqb c c refl)
+put-at false c cs e = e
+
+put-else : (t : Bool) (c : ℕ) (cs : List ℕ) (x : ℕ) → (x ≡ c → ⊥) → has (cond t (c ∷ []) [] ++ cs) x ≡ has cs x
+unfolding has
+put-else true c cs x f = ap (λ (k : Bool). k || has cs x) (ne-eqb x c f)
+put-else false c cs x f = refl
+
+parity : (n : ℕ) → n < 2 → digit (eqb n 1) ≡ n
+parity n l = go (eqb n 1) refl
+  where
+    go : (t : Bool) → eqb n 1 ≡ t → digit t ≡ n
+    go true e = sym (eqb-true n 1 e)
+    go false e = omega (arith, eqb-false n 1 e)
+
+-- the number stands there, and nothing elsewhere
+pub number-else : (w c n x : ℕ) → (c ≤ x → x < c + w → ⊥) → has (number c w n) x ≡ false
+unfolding has number
+number-else zero c n x f = refl
+number-else (suc w) c n x f =
+    put-else (eqb (n % 2) 1) c (number (suc c) w (n / 2)) x (λ e. f (omega arith) (omega arith))
+    ∙ number-else w (suc c) (n / 2) x (λ l m. f (omega arith) (omega arith))
+
+pub number-is : (w c n : ℕ) → n < 2 ^ w → word (has (number c w n)) c w ≡ n
+unfolding has number val
+number-is zero c n l = omega arith
+number-is (suc w) c n l =
+    let t = eqb (n % 2) 1 in let cs = number (suc c) w (n / 2) in
+    let here : c + 0 ≡ c = omega arith in
+    let first = ap (has (cond t (c ∷ []) [] ++ cs)) here ∙ put-at t c cs (number-else w (suc c) (n / 2) c (λ m _. omega arith)) in
+    let later =
+    val-same (λ i. has (cond t (c ∷ []) [] ++ cs) (c + suc i)) (λ i. has cs (suc c + i)) w
+    (λ i m. put-else t c cs (c + suc i) (omega arith) ∙ ap (has cs) (omega arith)) in
+    ap₂ (λ (a b : ℕ). a + 2 * b) (ap digit first ∙ parity (n % 2) (omega arith))
+    (later ∙ number-is w (suc c) (n / 2) (omega (arith, pow-suc 2 w)))
+    ∙ omega arith
 
 module _ (xs : List ℕ) (t : upToOne xs ≡ true) where
   pub with-ones : Holding (xs ++ (ONE-COL ∷ [])) 0 (withOnes xs oneRow)
