@@ -91,7 +91,8 @@ module _ (cpi : ℕ) (some : 0 < cpi) where
 
   pub batch-examples : BatchExamples
   batch-examples =
-      let over = filled-over cpi some (idle cpi) (premises-of cpi some (λ d c. false)) in let yes = judges-filled cpi some (idle cpi) (premises-of cpi some (λ d c. false)) .1 (idle-meets cpi some) in
+      let over = filled-over cpi some (idle cpi) (premises-of cpi some (λ d c. false)) in
+      let yes = judges-filled cpi some (idle cpi) (premises-of cpi some (λ d c. false)) .1 (idle-meets cpi some) in
       let accepted : allowed cpi ≡ true → judged cpi circuitWords (filled cpi (idle cpi)) ≡ Accepted (514 * cpi) =
       λ size. judges cpi size (filled cpi (idle cpi)) over .0 yes in
       record { over = over; yes = yes; accepted = accepted; short = λ size. short-over cpi (filled cpi (idle cpi)) size over .1 (accepted size) }

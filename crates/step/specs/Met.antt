@@ -104,7 +104,8 @@ module _ (w : StepWords) (f : StepFlags) where
 
   abbrev pub loadHalf : Bool
   loadHalf =
-      f .«ld_half» ⇒ eqb (byteOf (w .rd) 0) (byteOf (w .«load_val») (f .off)) && eqb (byteOf (w .rd) 1) (byteOf (w .«load_val») ((f .off + 1) % 8))
+      f .«ld_half»
+      ⇒ eqb (byteOf (w .rd) 0) (byteOf (w .«load_val») (f .off)) && eqb (byteOf (w .rd) 1) (byteOf (w .«load_val») ((f .off + 1) % 8))
 
   abbrev pub upperZero : Bool
   upperZero = f .«is_load» && not (f .«ld_word») ⇒ eqb (w .rd / 2 ^ 16) 0

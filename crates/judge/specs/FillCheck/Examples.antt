@@ -73,7 +73,9 @@ module _ (cpi : ℕ) (size : allowed cpi ≡ true) where
   of-size =
       record {
         accepted = sym (call (λ d c. false) .result)
-            ∙ ap (λ (a : CheckAnswer). record { answer = a; batch = filled cpi (idle cpi) }) (is-judged cpi (idle cpi) (premises-of cpi some (λ d c. false) .fit) (yes (λ d c. false)) ∙ ap Judged (batch-examples cpi some .accepted size));
+            ∙ ap (λ (a : CheckAnswer). record { answer = a; batch = filled cpi (idle cpi) })
+            (is-judged cpi (idle cpi) (premises-of cpi some (λ d c. false) .fit) (yes (λ d c. false))
+            ∙ ap Judged (batch-examples cpi some .accepted size));
         failed = λ k l. ap fails (answer-is (shiftsIn k)) ∙ call (shiftsIn k) .failed .1 (yes (shiftsIn k), shift-meets-not cpi some k l);
         no-bit = λ b c d l h m e n above. as-called cpi (replaced (batchOf cpi b) (c * cpi + d) l h) (refuses cpi size .no-bit b c d l h m e n above);
         no-one = as-called cpi (replicate (8192 * cpi) 0) (refuses cpi size .no-one);

@@ -1,5 +1,5 @@
--- All tests are true exactly when the record of the conditions holds. The answer says that all are met exactly then, and the condition that it
--- names is the first that is not met.
+-- All tests are true exactly when the record of the conditions holds. The answer says that all are met exactly then, and the condition
+-- that it names is the first that is not met.
 -- Assumes nothing.
 use mathlib.Core.Path.{_≡_, refl, sym, ap, ap₂, _∙_}
 use mathlib.Core.Logic.{_↔_, Iff·trans}
