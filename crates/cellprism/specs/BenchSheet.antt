@@ -3,38 +3,48 @@
 -- the crate where the operation lives.
 -- Assumes nothing.
 use mathlib.Core.Path.{_≡_, refl, sym, ap, ap₂, _∙_}
-use mathlib.Core.Bool.{Bool, true, false, cond}
+use mathlib.Core.Bool.{Bool, true, cond, _&&_}
 use mathlib.Core.List.{List, [], _∷_, _++_}
 use Prim.Native.Nat.{ℕ, _+_, _-_, _*_, _^_, _<_}
+use native.Mathlib.Omega.{arith}
 use lib.Dec.{lit<}
 use lib.ListN.{length, take, getD, set, replicate}
 use Rattle.field.specs.Gf.{product, element, ofWords, zero, one}
 use Rattle.field.specs.Gf.Element.{value-words, element-value, element-word}
 use Rattle.field.specs.Gf.Laws.{proper-words}
+use Rattle.field.specs.Gf.Tests.{same-self}
 use Rattle.field.specs.Gf.Sheet as field
+use Rattle.field.specs.Sums.{val}
 use Rattle.layout.specs.Columns.{ONE-COL, RS1, RD, T1, ALU, SUB, IS-LOAD, IS-STORE, IS-ARITH, RAM-ADDR, FETCH-OP}
 use Rattle.layout.specs.declared.Asked.the-variants.{Yes}
 use Rattle.layout.specs.declared.GeometryAnswer.the-variants.{Of, Refused}
 use Rattle.layout.specs.declared.ColumnAnswer.the-variants.{At}
 use Rattle.layout.specs.Batch.{geometryOf, mapped}
 use Rattle.layout.specs.Questions.{no}
+use Rattle.layout.specs.Lists.{joined}
 use Rattle.layout.specs.Sheet as layout
 use Rattle.circuit.specs.declared.Relation.the-variants.{Bin, Fld}
-use Rattle.circuit.specs.Rows.{from}
+use Rattle.circuit.specs.Rows.{from, fromEach}
 use Rattle.circuit.specs.Circuit.{circuitWords}
 use Rattle.circuit.specs.House as circuit
 use Rattle.verdict.specs.declared.Verdict.{Verdict}
 use Rattle.verdict.specs.declared.Verdict.the-variants.{Accepted, Failed}
 use Rattle.verdict.specs.declared.CheckAnswer.the-variants.{Judged}
 use Rattle.verdict.specs.Row.{elementAt}
+use Rattle.verdict.specs.OverBits.{sumBits}
 use Rattle.verdict.specs.Check.{checked}
 use Rattle.verdict.specs.Sheet as verdict
 use Rattle.step.specs.Derived.{derived}
-use Rattle.step.specs.Filling.{filled}
+use Rattle.step.specs.Solve.{lacks}
+use Rattle.step.specs.Determining.{beforeHalt, afterHalt, determining}
+use Rattle.step.specs.Met.{conditions, byteOf}
+use Rattle.step.specs.Met.First.{all-true}
 use Rattle.step.specs.Fill.{Called, called}
-use Rattle.step.specs.Ones.{has, withOnes, withOutput}
-use Rattle.step.specs.Sheet.{number, Gives}
-use Rattle.step.specs.Sheet as step
+use Rattle.step.specs.Ones.{has, withOnes, withOutput, holding-oneRow, fits, allDerived, allHold, listed-derived}
+use Rattle.step.specs.FilledRow.{Gives, accepted, address-fails, sum-fails, output-fails}
+use Rattle.step.specs.Sheet.{number, with-ones, with-output, derived-ones}
+use Rattle.judge.specs.FillCheck.{fillChecked}
+use Rattle.judge.specs.FillCheck.Examples.{filled-and-judged}
 use Rattle.witness.specs.declared.branch.BranchReading.the-variants.{Taken, NotTaken}
 use Rattle.witness.specs.Reading.{reading}
 use Rattle.witness.specs.Reading as witness
@@ -55,10 +65,12 @@ abbrev pub Checks : List ℕ → Verdict → Type 0
 Checks row v =
     (scratch : List ℕ) → length scratch ≡ 3072 → checked 1 circuitWords row scratch ≡ record { answer = Judged v; scratch = replicate 3072 0 }
 
--- the filler says yes to a row, and the check gives a verdict on the row that it leaves
+-- the filler says yes to a row, and the check gives a verdict on the row that it leaves; filling and checking in one call gives that verdict
+-- and leaves that row
 pub record Filled (row : List ℕ) (v : Verdict) : Type 0 where
   pub fill : called 1 row .answer ≡ Yes
   pub check : Checks (called 1 row .batch) v
+  pub fill-check : fillChecked 1 row ≡ record { answer = Judged v; batch = called 1 row .batch }
 
 -- columns from the first to the last
 abbrev pub columns : ℕ → ℕ → List ℕ
@@ -121,21 +133,28 @@ two-64 = spelled 0 1 (lit< tt) (lit< tt)
 
 -- the filler's row is the one that it leaves
 as-called : {row : List ℕ} {v : Verdict} → Gives row v → Filled row v
-as-called g =
+as-called {v = v} g =
     record {
       fill = ap (λ (k : Called). k .answer) (g .fill);
       check = λ scratch room. ap (λ (k : Called). checked 1 circuitWords (k .batch) scratch) (g .fill) ∙ g .check scratch room;
+      fill-check = filled-and-judged g ∙ ap (λ (k : Called). record { answer = Judged v; batch = k .batch }) (sym (g .fill));
     }
 
-one-or-zero : (c : ℕ) → derived c ≡ true → elementAt (called 1 oneRow .batch) c ≡ cond (has p6Ones c) one zero
-one-or-zero c d = ap (λ (k : Called). elementAt (k .batch) c) (step.sheet .p6 .fill) ∙ by-test (has p6Ones c) refl
-  where
-    by-test : (b : Bool) → has p6Ones c ≡ b → elementAt (filled 1 oneRow) c ≡ cond b one zero
-    by-test true e = step.sheet .p6-ones c e .1
-    by-test false e = step.sheet .p6-zeros c e d
+-- P6's row, and the computed tests of its columns
+p6-gives : Gives oneRow (Accepted 514)
+unfolding has val conditions byteOf
+p6-gives = accepted _ 0 _ holding-oneRow (fits _ _ refl) (all-true _ _ .0 refl)
+
+ones-derived : allDerived p6Ones ≡ true
+unfolding derived from
+ones-derived = refl
+
+ones-solve : allHold (has (p6Ones ++ (ONE-COL ∷ []))) determining ≡ true
+unfolding allHold has lacks sumBits determining beforeHalt afterHalt from fromEach joined
+ones-solve = refl
 
 pub bench-sheet : BenchSheet
-unfolding number
+unfolding number has val conditions byteOf
 bench-sheet =
     record {
       p1 = ap₂ product two-127 (element-word (lit< tt)) ∙ field.sheet-holds .0 ∙ sym (element-word (lit< tt));
@@ -143,15 +162,17 @@ bench-sheet =
       p3 = ap₂ product two-127 two-127 ∙ field.sheet-holds .1 .1 .0;
       p4 = verdict.p4;
       p5 = verdict.p5;
-      p6 = as-called (step.sheet .p6);
-      p6-listed = λ c e. step.sheet .p6-ones c e .0;
-      p6-derived = one-or-zero;
-      p7-store = as-called (step.sheet .p7-store);
-      p7-load-store = as-called (step.sheet .p7-load-store);
-      p8-alu-0 = as-called (step.sheet .p8-alu-0);
-      p8-alu-1 = as-called (step.sheet .p8-alu-1);
-      p9-output-5 = as-called (step.sheet .p9-output-5);
-      p9-output-6 = as-called (step.sheet .p9-output-6);
+      p6 = as-called p6-gives;
+      p6-listed = listed-derived p6Ones ones-derived;
+      p6-derived = λ c d. ap (λ (k : Called). elementAt (k .batch) c) (p6-gives .fill) ∙ derived-ones p6Ones ones-derived ones-solve c d;
+      p7-store = as-called (address-fails _ 0 _ (with-ones _ refl) (fits _ _ refl) refl refl);
+      p7-load-store = as-called (accepted _ 0 _ (with-ones _ refl) (fits _ _ refl) (all-true _ _ .0 refl));
+      p8-alu-0 = as-called (accepted _ 0 _ (with-ones _ refl) (fits _ _ refl) (all-true _ _ .0 refl));
+      p8-alu-1 = as-called (sum-fails _ 0 _ (with-ones _ refl) (fits _ _ refl) refl refl refl refl refl);
+      p9-output-5 =
+          as-called
+          (accepted _ 5 _ (with-output _ refl 5) (fits _ _ refl) (all-true _ _ .0 (ap (λ (k : Bool). k && true) (same-self (ofWords 5 0)))));
+      p9-output-6 = as-called (output-fails _ 6 _ (with-output _ refl 6) (fits _ _ refl) refl refl refl refl refl (λ e. omega arith));
       p10-blt = witness.p10 .blt;
       p10-bltu = witness.p10 .bltu;
       p10-bge = witness.p10 .bge;

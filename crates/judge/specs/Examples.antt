@@ -4,11 +4,11 @@
 use mathlib.Core.Path.{_≡_, refl}
 use mathlib.Core.Bool.{Bool, true, false}
 use mathlib.Core.List.{List, [], _∷_, _++_}
-use Prim.Native.Nat.{ℕ, _+_, _*_, _-_, _^_, _<_}
-use lib.ListN.{getD, set, drop, replicate}
+use Prim.Native.Nat.{ℕ, _*_, _-_, _/_, _%_, _^_, _<_}
+use lib.ListN.{getD, set, replicate}
 use Rattle.field.specs.Gf.{zero}
 use Rattle.field.specs.Sums.{val}
-use Rattle.layout.specs.Columns.{ONE-COL, RS1, SHIFT-OUT, HALT, IS-SHIFT}
+use Rattle.layout.specs.Columns.{ONE-COL, RS1, SHIFT-OUT, HALT, IS-SHIFT, EQA}
 use Rattle.layout.specs.Batch.{allowed}
 use Rattle.layout.specs.Lists.{joined}
 use Rattle.circuit.specs.Rows.{from, fromEach, numbered}
@@ -16,11 +16,12 @@ use Rattle.circuit.specs.Circuit.{binFamilies, fldFamilies, circuitRows, circui
 use Rattle.verdict.specs.declared.Verdict.the-variants.{Accepted}
 use Rattle.verdict.specs.Depends as depends
 use Rattle.verdict.specs.Check.{judged}
+use Rattle.step.specs.Words.{_⊻_}
 use Rattle.step.specs.Filling.{filled}
+use Rattle.step.specs.Fill.Bits.{bitAt}
 use Rattle.step.specs.Fill.Derive.{carryWord, runWord, laneWord, compareWord, branchWord, takenBit}
 use Rattle.step.specs.Met.{conditions, byteOf}
 use Rattle.step.specs.Ones.{has}
-use Rattle.step.specs.Sheet.{derivedOnes}
 use Rattle.step.specs.Chosen.{premises-of}
 use Rattle.step.specs.Clauses.{idle, idle-meets}
 use Rattle.judge.specs.Judged.{judgedCycle, JudgedYes}
@@ -31,26 +32,7 @@ use Rattle.judge.specs.Named.{namedColumns, named}
 use Rattle.judge.specs.Short.{shortYes}
 use Rattle.judge.specs.Short.Laws.{short-over}
 
--- ---- a cycle in which only the one column is given as 1: P6 of the bench sheet says which derived columns hold 1 then
-
--- with 1 in more columns
-abbrev withMore : List ℕ → ℕ → Bool
-withMore cs = has (cs ++ (derivedOnes ++ (ONE-COL ∷ [])))
-
-pub record CycleExamples : Type 0 where
-  pub filled : judgedCycle (withMore []) zero ≡ true
-  -- a derived column is flipped: the first to 0, or HALT to 1
-  pub cleared : judgedCycle (has (drop 1 derivedOnes ++ (ONE-COL ∷ []))) zero ≡ false
-  pub set : judgedCycle (withMore (HALT ∷ [])) zero ≡ false
-  -- condition 2 is not met: shift, and SHIFT_OUT is not ALU
-  pub shifts : judgedCycle (withMore (IS-SHIFT ∷ [])) zero ≡ true
-  pub shifts-else : judgedCycle (withMore (IS-SHIFT ∷ SHIFT-OUT ∷ [])) zero ≡ false
-
-pub cycle-examples : CycleExamples
-unfolding judgedCycle conditions byteOf carryWord runWord laneWord compareWord branchWord takenBit has val from
-cycle-examples = record { filled = refl; cleared = refl; set = refl; shifts = refl; shifts-else = refl }
-
--- ---- the same cycle by its words, and two cycles
+-- ---- a cycle in which only the one column is given as 1: its words below that column, as P6 of the bench sheet has its derived columns
 
 -- word 16 is ZERO
 abbrev withZeros : ℕ → List ℕ
@@ -58,6 +40,25 @@ withZeros w = replicate 14 0 ++ (0x0100000022021101 ∷ 0 ∷ w ∷ 0x400444000 
 
 abbrev all64 : ℕ
 all64 = 2 ^ 64 - 1
+
+-- by its bits, some of them flipped
+abbrev flipped : List ℕ → ℕ → Bool
+flipped cs c = has (ONE-COL ∷ cs) c ⊻ bitAt (getD (withZeros all64) (c / 64) 0) (c % 64)
+
+pub record CycleExamples : Type 0 where
+  pub filled : judgedCycle (flipped []) zero ≡ true
+  -- a derived column: the first that holds 1, or HALT
+  pub cleared : judgedCycle (flipped (EQA ∷ [])) zero ≡ false
+  pub set : judgedCycle (flipped (HALT ∷ [])) zero ≡ false
+  -- condition 2 is not met: shift, and SHIFT_OUT is not ALU
+  pub shifts : judgedCycle (flipped (IS-SHIFT ∷ [])) zero ≡ true
+  pub shifts-else : judgedCycle (flipped (IS-SHIFT ∷ SHIFT-OUT ∷ [])) zero ≡ false
+
+pub cycle-examples : CycleExamples
+unfolding judgedCycle conditions byteOf carryWord runWord laneWord compareWord branchWord takenBit has val
+cycle-examples = record { filled = refl; cleared = refl; set = refl; shifts = refl; shifts-else = refl }
+
+-- ---- the same cycle by its words, and two cycles
 
 pub record WordExamples : Type 0 where
   pub cycle : judgedWords (λ k. getD (withZeros all64) k 0) zero ≡ true
@@ -90,7 +91,8 @@ module _ (cpi : ℕ) (some : 0 < cpi) where
 
   pub batch-examples : BatchExamples
   batch-examples =
-      let over = filled-over cpi some (idle cpi) (premises-of cpi some (λ d c. false)) in let yes = judges-filled cpi some (idle cpi) (premises-of cpi some (λ d c. false)) .1 (idle-meets cpi some) in
+      let over = filled-over cpi some (idle cpi) (premises-of cpi some (λ d c. false)) in
+      let yes = judges-filled cpi some (idle cpi) (premises-of cpi some (λ d c. false)) .1 (idle-meets cpi some) in
       let accepted : allowed cpi ≡ true → judged cpi circuitWords (filled cpi (idle cpi)) ≡ Accepted (514 * cpi) =
       λ size. judges cpi size (filled cpi (idle cpi)) over .0 yes in
       record { over = over; yes = yes; accepted = accepted; short = λ size. short-over cpi (filled cpi (idle cpi)) size over .1 (accepted size) }

@@ -1,16 +1,17 @@
 -- One cycle: where its columns hold bits, its rows over the field are the determining rows over bits, and what `Others` says.
 -- Assumes nothing.
-use mathlib.Core.Path.{_≡_, refl}
-use mathlib.Core.Logic.{_↔_}
-use mathlib.Core.Bool.{Bool, true, _&&_}
+use mathlib.Core.Path.{_≡_, refl, sym, ap, _∙_}
+use mathlib.Core.Logic.{_↔_, Iff·trans}
+use mathlib.Core.Bool.{Bool, true, false, _&&_}
 use mathlib.Core.List.{List, [], _∷_}
-use Prim.Native.Nat.{ℕ, _+_, _*_, _≤_, _<_}
+use Prim.Native.Nat.{ℕ, _+_, _*_, _-_, _≤_, _<_}
 use native.Mathlib.Omega.{arith}
 use borrow.Author.Tests.{leb-true}
 use lib.Dec.{leb}
 use Rattle.field.specs.declared.Gf128.{Gf128}
 use Rattle.field.specs.Gf.{Proper}
 use Rattle.field.specs.Gf.Bits.{bitOf}
+use Rattle.field.specs.Sums.Laws.{val-same, same-bits, no-bits}
 use Rattle.layout.specs.Columns.{ONE-COL, RS1, RD, LOAD-VAL, SHIFT-OUT, ALU, HALT, IS-SHIFT, LD-WORD, CA, CH, CH2, WNL, ZE16, ZE8}
 use Rattle.layout.specs.Questions.{both}
 use Rattle.layout.specs.Lists.{joined, All, all-joined}
@@ -20,9 +21,11 @@ use Rattle.circuit.specs.Families.{all-from, all-each}
 use Rattle.verdict.specs.Row.{holds}
 use Rattle.verdict.specs.OverBits.{plain}
 use Rattle.verdict.specs.Depends.{named}
+use Rattle.step.specs.Words.{word}
 use Rattle.step.specs.Solve.{Holds}
 use Rattle.step.specs.Determining.{beforeHalt, afterHalt, determiningBin, determiningFamilies, determining}
-use Rattle.step.specs.Conditions.{Agree, Others}
+use Rattle.step.specs.Step.{Condition}
+use Rattle.step.specs.Conditions.{Same, Others}
 use Rattle.step.specs.BinRows.{address-row, extension-row, one-halt, bin-parts}
 use Rattle.step.specs.FieldRows.{overBits, bin-row, agree-row, sum-row, output-row}
 
@@ -63,18 +66,37 @@ module _ (z : ℕ → Gf128) (b : ℕ → Bool) (o : OfBits z b) where
       let k = all-bin (joined binFamilies) bin-over-bits in let j = all-joined (Holds b) binFamilies in
       (λ h. j .0 (k .0 h), λ h. k .1 (j .1 h))
 
-  agree : (n x y w : ℕ) → n ≤ 64 → x ≤ 1127 → y + n ≤ 1127 → w + n ≤ 1127 → Met (agreeRow n x y w) ↔ Agree b n x y w
-  agree n x y w l m p q = agree-row z b (o .bits) n x y w l (omega arith) (omega arith) (omega arith)
+  agree : (n x y w : ℕ) → n ≤ 64 → x ≤ 1127 → y + n ≤ 1127 → w + n ≤ 1127 → Met (agreeRow n x y w) ↔ Same b n x y w
+  agree n x y w l m p q =
+      Iff·trans (agree-row z b (o .bits) n x y w l (omega arith) (omega arith) (omega arith))
+      (λ h e. val-same _ _ n (h e), λ h e. same-bits _ _ n (h e))
 
   -- of words at columns that are written out
-  words-agree : (x y w : ℕ) → (leb x 1127 && (leb y 1000 && leb w 1000)) ≡ true → Met (agreeRow 64 x y w) ↔ Agree b 64 x y w
+  words-agree : (x y w : ℕ) → (leb x 1127 && (leb y 1000 && leb w 1000)) ≡ true → Met (agreeRow 64 x y w) ↔ Same b 64 x y w
   words-agree x y w e =
       let p = both (leb x 1127) (leb y 1000 && leb w 1000) e in let q = both (leb y 1000) (leb w 1000) (p .1) in
       agree 64 x y w (omega arith) (leb-true x 1127 (p .0)) (omega (arith, leb-true y 1000 (q .0))) (omega (arith, leb-true w 1000 (q .1)))
 
+  pub address-rows : (output : Gf128) → All (Holds b) (from 0 8 addressRow) ↔ Condition b output 10
+  address-rows output =
+      let k = all-from (Holds b) 0 8 addressRow in (
+        λ h e. val-same _ _ 8 (λ t l. address-row b (o .one) t .0 (k .0 h t (omega arith) (omega arith)) e),
+        λ h. k .1 (λ t _ l. address-row b (o .one) t .1 (λ e. same-bits _ _ 8 (h e) t l)),
+      )
+
+  pub extension-rows : (x lo n : ℕ) → All (Holds b) (from lo n (extensionRow x)) ↔ (b x ≡ true → word b (RD + lo) n ≡ 0)
+  extension-rows x lo n =
+      let k = all-from (Holds b) lo n (extensionRow x) in (
+        λ h e. val-same (λ i. b (RD + lo + i)) (λ i. false) n
+            (λ i l. ap b (omega arith) ∙ extension-row b (o .one) x (lo + i) .0 (k .0 h (lo + i) (omega arith) (omega arith)) e)
+            ∙ no-bits n,
+        λ h. k .1 (λ i l m. extension-row b (o .one) x i .1
+            (λ e. ap b (omega arith) ∙ same-bits (λ j. b (RD + lo + j)) (λ j. false) n (h e ∙ sym (no-bits n)) (i - lo) (omega arith))),
+      )
+
   load-rows : (a : ℕ) → a < 8
       → All Met (loadRows a)
-      ↔ (Agree b 8 (CA + a) (LOAD-VAL + 8 * a) RD × Agree b 8 (CH + a) (LOAD-VAL + 8 * a) RD × Agree b 8 (CH2 + a) (LOAD-VAL + 8 * a) (RD + 8))
+      ↔ (Same b 8 (CA + a) (LOAD-VAL + 8 * a) RD × Same b 8 (CH + a) (LOAD-VAL + 8 * a) RD × Same b 8 (CH2 + a) (LOAD-VAL + 8 * a) (RD + 8))
   load-rows a l =
       let p = agree 8 (CA + a) (LOAD-VAL + 8 * a) RD (omega arith) (omega arith) (omega arith) (omega arith) in
       let q = agree 8 (CH + a) (LOAD-VAL + 8 * a) RD (omega arith) (omega arith) (omega arith) (omega arith) in
@@ -113,9 +135,9 @@ module _ (z : ℕ → Gf128) (b : ℕ → Bool) (o : OfBits z b) where
           byte-lane = λ a l. load-rows a l .0 (lanes a l) .0;
           half-lane = λ a l. load-rows a l .0 (lanes a l) .1;
           next-lane = λ a l. load-rows a l .0 (lanes a l) .2;
-          extend16 = λ e k l m. extension-row b (o .one) ZE16 k .0 (all-from (Holds b) 16 48 (extensionRow ZE16) .0 (p .extend16) k l m) e;
-          extend8 = λ e k l m. extension-row b (o .one) ZE8 k .0 (all-from (Holds b) 8 8 (extensionRow ZE8) .0 (p .extend8) k l m) e;
-          address = λ e t l. address-row b (o .one) t .0 (all-from (Holds b) 0 8 addressRow .0 (p .address) t (omega arith) (omega arith)) e;
+          extend16 = extension-rows ZE16 16 48 .0 (p .extend16);
+          extend8 = extension-rows ZE8 8 8 .0 (p .extend8);
+          address = address-rows (z (ONE-COL + 1)) .0 (p .address);
         },
       )
 
@@ -127,9 +149,9 @@ module _ (z : ℕ → Gf128) (b : ℕ → Bool) (o : OfBits z b) where
             (bin-parts (Holds b) .1
             (record {
               determine = one-halt b (o .one) .1 (h .1);
-              address = all-from (Holds b) 0 8 addressRow .1 (λ t l m. address-row b (o .one) t .1 (λ e. r .address e t m));
-              extend16 = all-from (Holds b) 16 48 (extensionRow ZE16) .1 (λ k l m. extension-row b (o .one) ZE16 k .1 (λ e. r .extend16 e k l m));
-              extend8 = all-from (Holds b) 8 8 (extensionRow ZE8) .1 (λ k l m. extension-row b (o .one) ZE8 k .1 (λ e. r .extend8 e k l m));
+              address = address-rows (z (ONE-COL + 1)) .1 (r .address);
+              extend16 = extension-rows ZE16 16 48 .1 (r .extend16);
+              extend8 = extension-rows ZE8 8 8 .1 (r .extend8);
             })),
         all-joined Met fldFamilies .1 (
           (words-agree WNL ALU RD refl .1 (r .write), tt),

@@ -3,13 +3,12 @@
 use mathlib.Core.Path.{_≡_, refl, sym, ap, ap₂, subst, _∙_}
 use mathlib.Core.Logic.{⊎-elim}
 use mathlib.Core.Bool.{Bool, true, false, not, _&&_}
-use Prim.Native.Nat.{ℕ, zero, suc, _+_, _*_, _%_, _^_, _≤_, _<_}
+use Prim.Native.Nat.{ℕ, zero, suc, _+_, _*_, _%_, _≤_, _<_}
 use native.Mathlib.Nat.{eq-or-lt-of-le}
 use native.Mathlib.Omega.{arith}
 use borrow.Author.Tests.{not-true}
 use Rattle.field.specs.declared.Gf128.{Gf128}
 use Rattle.field.specs.Gf.{ofWords}
-use Rattle.field.specs.Sums.{digit}
 use Rattle.field.specs.Sums.Laws.{val-same}
 use Rattle.layout.specs.Columns.{RS1, RD, LOAD-VAL, SHIFT-OUT, T1, T2, ALU, SUB, WE, IS-LOAD, IS-STORE, IS-ARITH, IS-SHIFT, LD-BYTE, LD-HALF, LD-WORD, OFF, RAM-ADDR, FETCH-OP}
 use Rattle.layout.specs.Questions.{both}
@@ -58,10 +57,7 @@ module _ (y z : ℕ → Bool) (h : SameGiven y z) where
   same-step output s =
       record {
         arithmetic = λ e.
-            carried (same-word ALU 64 refl)
-            (ap₂ (λ (a b : ℕ). (a + b + digit (y SUB)) % 2 ^ 64) (same-word T1 64 refl) (same-word T2 64 refl)
-            ∙ ap (λ (b : Bool). (word z T1 64 + word z T2 64 + digit b) % 2 ^ 64) (h SUB refl))
-            (s .arithmetic (h IS-ARITH refl ∙ e));
+            cc (same-word ALU 64 refl, same-word T1 64 refl, same-word T2 64 refl, h SUB refl, s .arithmetic (h IS-ARITH refl ∙ e));
         shift = λ e. carried (same-word ALU 64 refl) (same-word SHIFT-OUT 64 refl) (s .shift (h IS-SHIFT refl ∙ e));
         write = λ e l. carried (same-word RD 64 refl) (same-word ALU 64 refl) (s .write (h WE refl ∙ e) (h IS-LOAD refl ∙ l));
         system = λ e.

@@ -1,5 +1,6 @@
--- Which step condition is the first that a cycle does not meet: the ten as tests of the cycle's words, in document 01's order. The laws are
--- in First: it says that all are met exactly when the record of the conditions holds. Each has the same of each condition, Read what the code reads.
+-- Which step condition is the first that a cycle does not meet: the ten of `Step` again, as the tests of a cycle's words that the code
+-- makes and its contracts cite. Each proves every test true exactly when the condition of its number holds, First that all are met
+-- exactly when the record of the conditions holds. Read has what the code reads.
 -- Assumes nothing.
 pub mod Read
 pub mod Each
@@ -103,7 +104,8 @@ module _ (w : StepWords) (f : StepFlags) where
 
   abbrev pub loadHalf : Bool
   loadHalf =
-      f .«ld_half» ⇒ eqb (byteOf (w .rd) 0) (byteOf (w .«load_val») (f .off)) && eqb (byteOf (w .rd) 1) (byteOf (w .«load_val») ((f .off + 1) % 8))
+      f .«ld_half»
+      ⇒ eqb (byteOf (w .rd) 0) (byteOf (w .«load_val») (f .off)) && eqb (byteOf (w .rd) 1) (byteOf (w .«load_val») ((f .off + 1) % 8))
 
   abbrev pub upperZero : Bool
   upperZero = f .«is_load» && not (f .«ld_word») ⇒ eqb (w .rd / 2 ^ 16) 0

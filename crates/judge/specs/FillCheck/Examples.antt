@@ -1,5 +1,5 @@
--- Filling and checking, of given batches: of every size one that is accepted, and one that fails by what stands in any one cycle; rows of the bench
--- sheet with their verdicts; and calls that are refused.
+-- Filling and checking, of given batches: of every size one that is accepted, and one that fails by what stands in any one cycle; rows whose
+-- verdict is known; and calls that are refused.
 -- Assumes nothing.
 use mathlib.Core.Path.{_≡_, refl, sym, ap, _∙_}
 use mathlib.Core.Bool.{Bool, true, false}
@@ -7,24 +7,20 @@ use mathlib.Core.List.{List, [], _∷_}
 use Prim.Native.Nat.{ℕ, _+_, _*_, _<_}
 use lib.ListN.{replicate, length-replicate}
 use Rattle.field.specs.Gf.{ofWords, isBit}
-use Rattle.layout.specs.Columns.{ALU, IS-LOAD, IS-STORE}
 use Rattle.layout.specs.declared.Asked.the-variants.{Yes}
 use Rattle.layout.specs.Batch.{allowed}
 use Rattle.layout.specs.Questions.{no}
 use Rattle.layout.specs.Sizes.{allowed-range}
-use Rattle.circuit.specs.declared.Relation.the-variants.{Bin, Fld}
 use Rattle.verdict.specs.declared.Verdict.{Verdict}
-use Rattle.verdict.specs.declared.Verdict.the-variants.{Accepted, Failed}
+use Rattle.verdict.specs.declared.Verdict.the-variants.{Accepted}
 use Rattle.verdict.specs.declared.CheckAnswer.{CheckAnswer}
 use Rattle.verdict.specs.declared.CheckAnswer.the-variants.{Judged, Refused}
 use Rattle.verdict.specs.Check.{Checked, houseChecked}
 use Rattle.verdict.specs.Agree.{house-agrees}
-use Rattle.verdict.specs.Sheet.{oneRow}
 use Rattle.step.specs.Derived.{derived}
 use Rattle.step.specs.Filling.{filled}
 use Rattle.step.specs.Demand3.{fails}
-use Rattle.step.specs.Ones.{withOnes, withOutput}
-use Rattle.step.specs.Sheet.{addressOnes, sumOnes, systemOnes, Gives, sheet}
+use Rattle.step.specs.FilledRow.{Gives}
 use Rattle.step.specs.Fill.{fillAsked, Called, called}
 use Rattle.step.specs.Fill.Answers.{passes, passed-all}
 use Rattle.step.specs.Fill.Refusals.{refuses}
@@ -46,20 +42,6 @@ pub record OfSize (cpi : ℕ) : Type 0 where
   pub no-bit : (b : ℕ → ℕ → Bool) (c d l h : ℕ) → c < 2048 → derived c ≡ false → d < cpi → isBit (ofWords l h) ≡ false
       → RefusedAs cpi 11 (c * cpi + d) (replaced (batchOf cpi b) (c * cpi + d) l h)
   pub no-one : RefusedAs cpi 12 0 (replicate (8192 * cpi) 0)
-
--- a row that the filler fills as called, and the verdict on it
-abbrev pub FilledAndJudged : List ℕ → Verdict → Type 0
-FilledAndJudged row v = fillChecked 1 row ≡ record { answer = Judged v; batch = filled 1 row }
-
--- P6 to P9 of the bench sheet
-pub record Rows : Type 0 where
-  pub p6 : FilledAndJudged oneRow (Accepted 514)
-  pub p7-store : FilledAndJudged (withOnes (IS-STORE ∷ addressOnes) oneRow) (Failed Bin 255 256)
-  pub p7-load-store : FilledAndJudged (withOnes (IS-LOAD ∷ IS-STORE ∷ addressOnes) oneRow) (Accepted 514)
-  pub p8-alu-0 : FilledAndJudged (withOnes sumOnes oneRow) (Accepted 514)
-  pub p8-alu-1 : FilledAndJudged (withOnes (ALU ∷ sumOnes) oneRow) (Failed Fld 1 485)
-  pub p9-output-5 : FilledAndJudged (withOutput 5 (withOnes systemOnes oneRow)) (Accepted 514)
-  pub p9-output-6 : FilledAndJudged (withOutput 6 (withOnes systemOnes oneRow)) (Failed Fld 3 487)
 
 -- questions 1 and 2
 pub record Refusals : Type 0 where
@@ -91,30 +73,21 @@ module _ (cpi : ℕ) (size : allowed cpi ≡ true) where
   of-size =
       record {
         accepted = sym (call (λ d c. false) .result)
-            ∙ ap (λ (a : CheckAnswer). record { answer = a; batch = filled cpi (idle cpi) }) (is-judged cpi (idle cpi) (premises-of cpi some (λ d c. false) .fit) (yes (λ d c. false)) ∙ ap Judged (batch-examples cpi some .accepted size));
+            ∙ ap (λ (a : CheckAnswer). record { answer = a; batch = filled cpi (idle cpi) })
+            (is-judged cpi (idle cpi) (premises-of cpi some (λ d c. false) .fit) (yes (λ d c. false))
+            ∙ ap Judged (batch-examples cpi some .accepted size));
         failed = λ k l. ap fails (answer-is (shiftsIn k)) ∙ call (shiftsIn k) .failed .1 (yes (shiftsIn k), shift-meets-not cpi some k l);
         no-bit = λ b c d l h m e n above. as-called cpi (replaced (batchOf cpi b) (c * cpi + d) l h) (refuses cpi size .no-bit b c d l h m e n above);
         no-one = as-called cpi (replicate (8192 * cpi) 0) (refuses cpi size .no-one);
       }
 
-filled-and-judged : {row : List ℕ} {v : Verdict} → Gives row v → FilledAndJudged row v
+-- a row that the filler fills as called, and the verdict on it: the bench sheet cites this of P6 to P9
+pub filled-and-judged : {row : List ℕ} {v : Verdict} → Gives row v → fillChecked 1 row ≡ record { answer = Judged v; batch = filled 1 row }
 filled-and-judged {row} {v} g =
     as-called 1 row (g .fill)
     ∙ ap (λ (a : CheckAnswer). record { answer = a; batch = filled 1 row })
     (house-agrees 1 (filled 1 row) (replicate 3072 0) (length-replicate {A = ℕ} 3072 0)
     ∙ ap (λ (c : Checked). c .answer) (g .check (replicate 3072 0) (length-replicate {A = ℕ} 3072 0)))
-
-pub rows : Rows
-rows =
-    record {
-      p6 = filled-and-judged (sheet .p6);
-      p7-store = filled-and-judged (sheet .p7-store);
-      p7-load-store = filled-and-judged (sheet .p7-load-store);
-      p8-alu-0 = filled-and-judged (sheet .p8-alu-0);
-      p8-alu-1 = filled-and-judged (sheet .p8-alu-1);
-      p9-output-5 = filled-and-judged (sheet .p9-output-5);
-      p9-output-6 = filled-and-judged (sheet .p9-output-6);
-    }
 
 pub refusals : Refusals
 unfolding fillChecked called fillAsked allowed

@@ -1,5 +1,5 @@
--- All tests are true exactly when the record of the conditions holds. The answer says that all are met exactly then, and the condition that it
--- names is the first that is not met.
+-- All tests are true exactly when the record of the conditions holds. The answer says that all are met exactly then, and the condition
+-- that it names is the first that is not met.
 -- Assumes nothing.
 use mathlib.Core.Path.{_≡_, refl, sym, ap, ap₂, _∙_}
 use mathlib.Core.Logic.{_↔_, Iff·trans}
@@ -18,7 +18,7 @@ use Rattle.layout.specs.Questions.{no, passed, both}
 use Rattle.verdict.specs.Row.{cycleOf}
 use Rattle.verdict.specs.Bits.{firstFrom, first-passes, first-least, first-from}
 use Rattle.step.specs.Words.{bitsOf}
-use Rattle.step.specs.Step.{Step}
+use Rattle.step.specs.Step.{Condition, Step}
 use Rattle.step.specs.declared.conditions.StepAnswer.the-variants.{Meets, Unmet, Refused}
 use Rattle.step.specs.Fill.{fillAsked}
 use Rattle.step.specs.Met.{wordsOf, flagsOf, conditions, allTrue, named, firstFalse, firstUnmet, ifAsked, ifInside, stepAnswer}
@@ -57,8 +57,8 @@ module _ (b : ℕ → Bool) (output : Gf128) where
   -- what the answer says where it names condition k: that one is not met, and those before it are
   pub record FirstUnmet (k : ℕ) : Type 0 where
     pub number : (1 ≤ k) × (k ≤ 10)
-    pub unmet : met k ≡ false
-    pub before : (i : ℕ) → 1 ≤ i → i < k → met i ≡ true
+    pub unmet : Condition b output k → ⊥
+    pub before : (i : ℕ) → 1 ≤ i → i < k → Condition b output i
 
   abbrev fails : ℕ → Bool
   fails k = not (met k)
@@ -75,8 +75,9 @@ module _ (b : ℕ → Bool) (output : Gf128) where
       let n = one-named first k e in
       record {
         number = (omega (arith, n .0, first-from fails 10 1), omega (arith, n .0, n .1));
-        unmet = ap met (sym (n .0)) ∙ not-true (met first) (first-passes fails 10 1 (omega (arith, n .1)));
-        before = λ i l m. met-before i l (omega (arith, n .0));
+        unmet = λ h. true≢false
+            (sym (each.each-met b output k .1 h) ∙ ap met (sym (n .0)) ∙ not-true (met first) (first-passes fails 10 1 (omega (arith, n .1))));
+        before = λ i l m. each.each-met b output i .0 (met-before i l (omega (arith, n .0)));
       }
 
   all-met : firstUnmet b output ≡ Meets → (i : ℕ) → 1 ≤ i → i ≤ 10 → met i ≡ true
@@ -93,30 +94,30 @@ module _ (b : ℕ → Bool) (output : Gf128) where
     λ e.
         let m = all-at tests e in let n = each.each-met b output in
         record {
-          arithmetic = n .arithmetic .0 (m 0 (omega arith));
-          shift = n .shift .0 (m 1 (omega arith));
-          write = n .write .0 (m 2 (omega arith));
-          system = n .system .0 (m 3 (omega arith));
-          load-word = n .load-word .0 (m 4 (omega arith));
-          load-byte = n .load-byte .0 (m 5 (omega arith));
-          load-half = n .load-half .0 (m 6 (omega arith));
-          upper-zero = n .upper-zero .0 (m 7 (omega arith));
-          second-zero = n .second-zero .0 (m 8 (omega arith));
-          address = n .address .0 (m 9 (omega arith));
+          arithmetic = n 1 .0 (m 0 (omega arith));
+          shift = n 2 .0 (m 1 (omega arith));
+          write = n 3 .0 (m 2 (omega arith));
+          system = n 4 .0 (m 3 (omega arith));
+          load-word = n 5 .0 (m 4 (omega arith));
+          load-byte = n 6 .0 (m 5 (omega arith));
+          load-half = n 7 .0 (m 6 (omega arith));
+          upper-zero = n 8 .0 (m 7 (omega arith));
+          second-zero = n 9 .0 (m 8 (omega arith));
+          address = n 10 .0 (m 9 (omega arith));
         },
     λ s.
         let n = each.each-met b output in
         rw (
-          n .arithmetic .1 (s .arithmetic),
-          n .shift .1 (s .shift),
-          n .write .1 (s .write),
-          n .system .1 (s .system),
-          n .load-word .1 (s .load-word),
-          n .load-byte .1 (s .load-byte),
-          n .load-half .1 (s .load-half),
-          n .upper-zero .1 (s .upper-zero),
-          n .second-zero .1 (s .second-zero),
-          n .address .1 (s .address),
+          n 1 .1 (s .arithmetic),
+          n 2 .1 (s .shift),
+          n 3 .1 (s .write),
+          n 4 .1 (s .system),
+          n 5 .1 (s .load-word),
+          n 6 .1 (s .load-byte),
+          n 7 .1 (s .load-half),
+          n 8 .1 (s .upper-zero),
+          n 9 .1 (s .second-zero),
+          n 10 .1 (s .address),
         ),
   )
 
