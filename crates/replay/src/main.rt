@@ -1,14 +1,14 @@
 // Replays a fixed list of the original's answers, which the file itself describes, and counts those that the product does not give.
-mod batches;
 mod line;
 mod makers;
 mod numbers;
+mod readings;
 mod words;
 
-use crate::batches::Batch;
 use crate::line::Record;
 use crate::makers::Made;
 use crate::numbers::Numbers;
+use crate::readings::Reading;
 use crate::words::Put;
 use libc::STDIN_FILENO;
 use libc::STDOUT_FILENO;
@@ -34,14 +34,14 @@ fn set(done: bool) -> Outcome {
     if done { Outcome::Quiet } else { Outcome::Wrong }
 }
 
-// What a line does: nothing, put words, or hold an answer to the product's.
+// A line says nothing, puts words, or has an answer of the product: on numbers, on words that are read, on words that are made.
 enum Kind {
     Note,
     Cells(Put),
     Lent(Put),
-    Numbers(Numbers),
-    Batch(Batch),
-    Made(Made),
+    Counts(Numbers),
+    Reads(Reading),
+    Makes(Made),
     Unknown,
 }
 
@@ -55,22 +55,22 @@ fn kind_of(letter: u8) -> Kind {
         b'Z' => Kind::Lent(Put::Zeros),
         b'r' => Kind::Lent(Put::Seven),
         b'W' => Kind::Lent(Put::Bits),
-        b'm' => Kind::Numbers(Numbers::Product),
-        b'a' => Kind::Numbers(Numbers::Sum),
-        b'l' => Kind::Numbers(Numbers::Shift),
-        b'g' => Kind::Numbers(Numbers::Geometry),
-        b'c' => Kind::Numbers(Numbers::WitnessColumn),
-        b'z' => Kind::Numbers(Numbers::AnyColumn),
-        b'b' => Kind::Numbers(Numbers::WayBack),
-        b't' => Kind::Numbers(Numbers::Branch),
-        b'k' => Kind::Batch(Batch::Check),
-        b'q' => Kind::Batch(Batch::Bits),
-        b'u' => Kind::Batch(Batch::Conditions),
-        b'p' => Kind::Batch(Batch::Sums),
-        b'o' => Kind::Batch(Batch::Rows),
-        b'v' => Kind::Made(Made::Row),
-        b'j' => Kind::Made(Made::Batch),
-        b'f' => Kind::Made(Made::Filling),
+        b'm' => Kind::Counts(Numbers::Product),
+        b'a' => Kind::Counts(Numbers::Sum),
+        b'l' => Kind::Counts(Numbers::Shift),
+        b'g' => Kind::Counts(Numbers::Geometry),
+        b'c' => Kind::Counts(Numbers::WitnessColumn),
+        b'z' => Kind::Counts(Numbers::AnyColumn),
+        b'b' => Kind::Counts(Numbers::WayBack),
+        b't' => Kind::Counts(Numbers::Branch),
+        b'k' => Kind::Reads(Reading::Check),
+        b'q' => Kind::Reads(Reading::Bits),
+        b'u' => Kind::Reads(Reading::Conditions),
+        b'p' => Kind::Reads(Reading::Sums),
+        b'o' => Kind::Reads(Reading::Rows),
+        b'v' => Kind::Makes(Made::Row),
+        b'j' => Kind::Makes(Made::Batch),
+        b'f' => Kind::Makes(Made::Filling),
         _ => Kind::Unknown,
     }
 }
@@ -81,9 +81,9 @@ fn replay(line: Record, cells: &mut [u64], lent: &mut [u64], made: &mut [u64]) -
         Kind::Note => Outcome::Quiet,
         Kind::Cells(k) => set(words::is_put(k, n, cells)),
         Kind::Lent(k) => set(words::is_put(k, n, lent)),
-        Kind::Numbers(k) => of(numbers::is_right(k, n)),
-        Kind::Batch(k) => of(batches::is_right(k, n, cells, lent)),
-        Kind::Made(k) => of(makers::is_right(k, n, lent, made, cells)),
+        Kind::Counts(k) => of(numbers::is_right(k, n)),
+        Kind::Reads(k) => of(readings::is_right(k, n, cells, lent)),
+        Kind::Makes(k) => of(makers::is_right(k, n, lent, made, cells)),
         Kind::Unknown => Outcome::Wrong,
     }
 }
@@ -95,7 +95,7 @@ struct Tally {
 }
 
 fn counted(t: Tally, o: Outcome) -> Tally
-    requires { ⌜ (t .right < 1000000) × (t .wrong < 1000000) ⌝ }
+    requires { ⌜ (t .right < 0x80000) × (t .wrong < 0x80000) ⌝ }
     ensures { λ r. ⌜ (r .right ≤ t .right + 1) × (r .wrong ≤ t .wrong + 1) ⌝ }
 {
     match o {
@@ -111,7 +111,7 @@ fn counted(t: Tally, o: Outcome) -> Tally
     }
 }
 
-// A text of more than 0x80000 bytes is not replayed.
+// A text of more than 0x80000 bytes is not replayed. A line has a byte at least, so the counts stay below that.
 fn replay_all(text: &[u8], cells: &mut [u64], lent: &mut [u64], made: &mut [u64]) -> Tally {
     let mut tally = Tally { right: 0, wrong: 0 };
     if 0x80000 < text.len() {

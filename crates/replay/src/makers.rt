@@ -51,12 +51,12 @@ fn batch(n: [u64; 8]) -> Wanted {
     }
 }
 
-// A refusal stands as 0x8000000000000000 and its number; the answer has the place below it, which is 0 for the questions of makers.
+// A refusal stands as 0x8000000000000000 and its number; the answer has the number above its place, which is 0 for the questions of makers.
 fn asked_is(answer: u64, n: u64) -> bool {
-    if n == 0 {
-        return answer == 0;
+    if answer == 0 {
+        return n == 0;
     }
-    answer == 0x8000000000000000 + n % 0x100 * 0x100000000
+    (answer % 0x100000000 == 0) & (n == 0x8000000000000000 + answer / 0x100000000 % 0x80000000)
 }
 
 // After a yes the words are those that are set up, after a no as they were: 2, which no row of bits has.

@@ -1,6 +1,6 @@
 // The words that lines set up, and those that are lent: put, filled and compared. Places and counts are in hex, as in the vector file.
 
-// No line puts a word so far behind the first.
+// Places and steps behind this one are outside all words; sums of others stay small.
 const FAR: u64 = 0x1000000;
 
 pub enum Put {
@@ -21,7 +21,7 @@ fn put_word(words: &mut [u64], at: u64, word: u64) -> bool {
 
 // One element of a batch.
 fn put_element(batch: &mut [u64], column: u64, lo: u64, hi: u64) -> bool {
-    if FAR * 0x41 < column {
+    if batch.len() as u64 <= column {
         return false;
     }
     put_word(batch, 2 * column, lo) & put_word(batch, 2 * column + 1, hi)
@@ -29,12 +29,15 @@ fn put_element(batch: &mut [u64], column: u64, lo: u64, hi: u64) -> bool {
 
 // 0x40 columns that stand `step` apart from the given one on become the bits of a word, the lowest first.
 fn put_bits(batch: &mut [u64], column: u64, step: u64, word: u64) -> bool {
+    if FAR < column {
+        return false;
+    }
     if FAR < step {
         return false;
     }
-    let mut at = column % FAR;
+    let mut at = column;
     let mut rest = word;
-    let mut done = column < FAR;
+    let mut done = true;
     let mut i: usize = 0;
     while i < 0x40 {
         done = put_element(batch, at, rest % 2, 0) & done;
@@ -47,8 +50,11 @@ fn put_bits(batch: &mut [u64], column: u64, step: u64, word: u64) -> bool {
 
 // n: a place, and seven words from there on.
 fn put_seven(words: &mut [u64], n: [u64; 8]) -> bool {
-    let at = n[0] % FAR;
-    let mut done = n[0] < FAR;
+    let at = n[0];
+    if FAR < at {
+        return false;
+    }
+    let mut done = true;
     let mut i: usize = 1;
     while i < 8 {
         done = put_word(words, at + i as u64 - 1, n[i]) & done;

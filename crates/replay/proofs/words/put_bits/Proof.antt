@@ -9,7 +9,8 @@ use Rattle.replay.proofs.words.put_bits.Statement.{statement}
 use Rattle.replay.proofs.words.put_bits.Tie as tie
 
 abbrev Inv-loop : tie.InvT-loop
-Inv-loop batch₀ column step word at₀ rest₀ done₀ i₀ batch at rest done i = (i ≤ 0x40) × (at ≤ 0x1000000 + i * 0x1000000) × (length batch ≡ length batch₀)
+Inv-loop batch₀ column step word at₀ rest₀ done₀ i₀ batch at rest done i =
+    (i ≤ 0x40) × (at ≤ 0x1000000 + i * 0x1000000) × (length batch ≡ length batch₀)
 
 abbrev μ-loop : tie.MeasureT-loop
 μ-loop batch₀ column step word at₀ rest₀ done₀ i₀ batch at rest done i = 0x40 - i
@@ -20,6 +21,7 @@ put-bits-spec =
     (tie.spec
     Inv-loop
     μ-loop
+    (λ c. search needs)
     (λ c. search needs)
     (λ c. search needs)
     (λ c κs. search needs)

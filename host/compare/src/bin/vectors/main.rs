@@ -54,18 +54,20 @@ const INPUT: u64 = 0x8123_4567_89ab_cdef;
 /// The first lines of the file.
 const DESCRIPTION: &str = "\
 # A sample of the original's answers (idrees2516/magnetar, commit ed6841cc0e), written by host/compare's program vectors.
-# A line is a letter and numbers. Numbers are in hex, in these lines too. Refusals are document 01's.
+# A line is a letter and numbers. Numbers are in hex, in these lines too. Refusals, the bit test and the step conditions, which the
+# original does not have, are document 01's.
 # m a: product and sum of two elements (low, high, low, high) and the result (low, high). l: an element, a shift, the result.
 # g: cpi, w_cols, m, one_col, w128. c z: cpi, column, cycle, batch column. b: cpi, batch column, column, cycle.
 # t: opcode, funct3, RS1, RS2, and 0 for no branch, 1 taken, 2 not taken.
 # 0: all elements of the batch become 0. s: column, low, high. w: 40 columns from one on, so far apart, hold the bits of a word.
 # Z: all lent words become 0. W: as w, for the lent words. r: lent words from one on, at most seven, and 0 for those left out.
-# k: cpi, the verdict on the batch against the house listing (0 accepted, 1 fails in bin, 2 in fld), batch row, rows.
+# k: cpi, the verdict on the batch against the house listing (0 accepted, 1 fails in bin, 2 in fld), batch row, rows; or 3 and a
+# refusal's number.
 # v: public words, words of the row, the answer, 0 or a refusal; the row of the lent record (words 0 to 1d), ROM row (1e to 25) and
 # public words (from 40 on) is the batch that is set up.
 # j: cpi, words of the cycles (lent from 0 on), public words (from 4000 on), words of the batch, the answer; it is the batch that is
-# set up. In all lines so far a refusal is 8000000000000000 and its number, in those that follow 8000000000000000, its place and
-# 100000000 times its number.
+# set up. But for k, a refusal in the lines so far is 8000000000000000 and its number; in those that follow it is 8000000000000000,
+# its place and 100000000 times its number.
 # q: cpi, words of the batch, the bit test's answer: 0, or 4000000000000000, the batch column that is above 1, 100000000 times its
 # column and 1000000000000 times its cycle.
 # u: cpi, words of the batch, cycle, the first step condition that is not met, 0 for none.
@@ -89,15 +91,18 @@ fn main() {
     makers::rows();
     makers::batches();
     makers::branches();
-    println!("# From here on the bit test, the step conditions, batches that the original makes and the filler makes again, a row's");
-    println!("# sums and the listing reader.");
+    println!("# From here on the check's refusals, the bit test, the step conditions, batches that the original makes and the filler");
+    println!("# fills, rows' sums and the listing reader.");
+    for cpi in [0, 3, 0x101] {
+        println!("k {cpi:x} 3 {:x} 0", answer::SIZE);
+    }
     steps::bits();
     steps::conditions();
     steps::fillings();
     listings::sums();
     listings::reader();
-    println!("# From here on one number of each line is another, or what is set up or lent is not what is made, or the line is none: none is");
-    println!("# as it should be.");
+    println!("# From here on one number of each line is another, or what is set up or lent is not what is made, or the line is none, or");
+    println!("# there are fewer words than it asks for: none is as it should be.");
     wrong::lines();
     makers::wrong();
     wrong::others();

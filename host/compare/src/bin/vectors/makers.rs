@@ -7,7 +7,7 @@ use magnetar_cpu::interp::CycleRecord;
 use magnetar_field::Gf128;
 use words::{record_words, rom_words, words_of};
 
-use crate::{put, set_up, Numbers, INPUT, PROGRAM, REFUSED};
+use crate::{put, set_up, Numbers, INPUT, PROGRAM, REFUSED, SIZES};
 
 /// Where the public words of a row and of a batch are lent.
 const ROW_PUBLIC: usize = 64;
@@ -53,7 +53,7 @@ fn made_row(record: &CycleRecord, rom: &RomRow, public: &[Gf128]) {
 
 pub fn batches() {
     let mut numbers = Numbers(0xa55e);
-    for cpi in [1, 2, 4] {
+    for cpi in SIZES {
         for values in [0, 1, 5] {
             assembled(&mut numbers, cpi, values);
         }

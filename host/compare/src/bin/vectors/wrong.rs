@@ -8,7 +8,10 @@ use magnetar_cpu::circuit::{build_circuit_batched, WITNESS_LAYOUT};
 use magnetar_field::{mul, Gf128, ONE};
 use words::words_of;
 
-use crate::answer::{above_one, refusal, Refusal, CYCLE, GIVEN_BIT, ROW_SOUGHT, SIZE};
+use crate::answer::{
+    above_one, refusal, Refusal, BATCH_LENGTH, CYCLE, CYCLES_LENGTH, GIVEN_BIT, PUBLIC_LENGTH,
+    ROW_SOUGHT, SIZE,
+};
 use crate::listings::{house_rows, reader_line, said, sums_line, sums_of, unchanged};
 use crate::makers::lend;
 use crate::steps::{lend_batch, words_in};
@@ -75,22 +78,45 @@ fn checks() {
     changed("k", &judged(&spec, &z, 1), 1..4);
 }
 
-/// The bit test, the conditions, the filler, a row's sums, the reader; and lines that are none.
+/// The check's refusals, the bit test, the conditions, the filler, a row's sums, the reader; and lines that are none.
 pub fn others() {
     let z = accepted_batches(1).swap_remove(0);
     set_up(&z, 1);
     batches(&z);
     sums(&z);
     reader();
-    // A letter that stands for nothing, and places that `replay` has not.
+    // A letter that stands for nothing.
     println!("x 0");
-    println!("s {:x} 1 0", words_in(4) / 2);
-    println!("r {:x} 0", words_in(4) - 6);
+    no_room();
+}
+
+/// Lines that ask for more words than `replay` has. Of the words that it has the answer would be right.
+fn no_room() {
+    let most = words_in(4) as u64;
+    let length = refusal(BATCH_LENGTH).answer();
+    println!("s {:x} 1 0", most / 2);
+    println!("r {:x} 0", most - 6);
+    println!("W {:x} 1 0", most / 2 - 63);
+    println!("k 8 3 {BATCH_LENGTH:x} 0");
+    println!("q 8 {:x} {length:x}", 2 * most);
+    println!("u 8 {:x} 0 {length:x}", 2 * most);
+    println!("f 8 {:x} {length:x}", 2 * most);
+    lend(0, &[2; 6]);
+    println!("p 8 {:x} dab 0 0 0 0 {length:x}", 2 * most);
+    println!("v {:x} 2000 {:x}", most - 63, REFUSED + PUBLIC_LENGTH);
+    println!("v 0 {:x} {:x}", most + 1, REFUSED + BATCH_LENGTH);
+    println!(
+        "j 1 1000 {:x} 2000 {:x}",
+        most / 2 + 1,
+        REFUSED + PUBLIC_LENGTH
+    );
+    println!("j 1 {:x} 0 2000 {:x}", most + 1, REFUSED + CYCLES_LENGTH);
 }
 
 fn batches(z: &[Gf128]) {
     let words = words_in(1) as u64;
     let no_size = refusal(SIZE).answer();
+    changed("k", &[3, 3, SIZE, 0], 1..3);
     changed("q", &[1, words, 0], 2..3);
     changed("q", &[3, words, no_size], 2..3);
     changed("u", &[1, words, 0, 0], 3..4);

@@ -1,4 +1,4 @@
-// Does the product say of the batch or the listing what stands in a vector? In the answers of all but the check a refusal has its place.
+// Does the product read in the batch or the listing what stands in a vector? A refusal has its place in all answers but the check's.
 use crate::words::has_part;
 use crate::words::part;
 use crate::words::same_words;
@@ -10,7 +10,7 @@ use compare::reader::compare_reader;
 use verdict::CheckAnswer;
 use verdict::Verdict;
 
-pub enum Batch {
+pub enum Reading {
     Check,
     Bits,
     Conditions,
@@ -63,9 +63,9 @@ fn conditions(n: [u64; 8], cells: &[u64]) -> bool {
 }
 
 // The house listing with one word changed; a place past its end changes none.
-fn changed_listing(place: u64, word: u64) -> [u32; 3499] {
+fn changed_listing(place: u64, word: u64) -> [u32; 0xdab] {
     let mut listing = circuit::build_circuit();
-    if place < 3499 {
+    if place < 0xdab {
         let at = place as usize;
         listing[at] = (word % 0x100000000) as u32;
     }
@@ -110,12 +110,12 @@ fn rows_read(n: [u64; 8], lent: &[u64]) -> bool {
     (answer == n[7]) & same_words(&out, lent)
 }
 
-pub fn is_right(k: Batch, n: [u64; 8], cells: &[u64], lent: &[u64]) -> bool {
+pub fn is_right(k: Reading, n: [u64; 8], cells: &[u64], lent: &[u64]) -> bool {
     match k {
-        Batch::Check => check(n, cells),
-        Batch::Bits => bits(n, cells),
-        Batch::Conditions => conditions(n, cells),
-        Batch::Sums => sums(n, cells, lent),
-        Batch::Rows => rows_read(n, lent),
+        Reading::Check => check(n, cells),
+        Reading::Bits => bits(n, cells),
+        Reading::Conditions => conditions(n, cells),
+        Reading::Sums => sums(n, cells, lent),
+        Reading::Rows => rows_read(n, lent),
     }
 }
