@@ -42,12 +42,12 @@ pub fn bits() {
         set_up(&z, cpi);
         println!("q {cpi:x} {words:x} 0");
         for i in 0..16 {
-            // Every fourth time the column before stays above 1 too.
             let column = numbers.next() as usize % (L::W_COLS * cpi);
             let before = z[column];
             change(&mut z, column, Gf128(ABOVE_ONE[i % 6]));
             let answer = bit_answer(cpi, &z);
             println!("q {cpi:x} {words:x} {answer:x}");
+            // Every fourth stays above 1, so that the smallest of several is named.
             if i % 4 != 0 {
                 change(&mut z, column, before);
             }
