@@ -1,9 +1,15 @@
 // Replays a fixed list of the original's answers, which the file itself describes, and counts those that the product does not give.
-mod answers;
-mod batch;
 mod line;
 mod makers;
+mod numbers;
+mod readings;
+mod words;
 
+use crate::line::Record;
+use crate::makers::Made;
+use crate::numbers::Numbers;
+use crate::readings::Reading;
+use crate::words::Put;
 use libc::STDIN_FILENO;
 use libc::STDOUT_FILENO;
 ghost use Prim.Native.Nat.{_+_, _<_, _≤_};
@@ -23,108 +29,63 @@ fn of(right: bool) -> Outcome {
     }
 }
 
-fn setting(letter: u8, n: [u64; 8], cells: &mut [u64]) -> Outcome {
-    if letter == b's' {
-        batch::put(cells, n[0], n[1], n[2]);
-        return Outcome::Quiet;
-    }
-    if letter == b'w' {
-        batch::put_word(cells, n[0], n[1], n[2]);
-        return Outcome::Quiet;
-    }
-    if letter == b'0' {
-        batch::clear(cells);
-        return Outcome::Quiet;
-    }
-    if letter == b'#' {
-        return Outcome::Quiet;
-    }
-    Outcome::Wrong
+// What only puts words is wrong where there is no such place.
+fn set(done: bool) -> Outcome {
+    if done { Outcome::Quiet } else { Outcome::Wrong }
 }
 
-// What is lent to the makers.
-fn lending(letter: u8, n: [u64; 8], cells: &mut [u64], lent: &mut [u64]) -> Outcome {
-    if letter == b'r' {
-        makers::put_words(lent, n);
-        return Outcome::Quiet;
-    }
-    if letter == b'W' {
-        batch::put_word(lent, n[0], n[1], n[2]);
-        return Outcome::Quiet;
-    }
-    if letter == b'Z' {
-        batch::clear(lent);
-        return Outcome::Quiet;
-    }
-    setting(letter, n, cells)
+// A line says nothing, puts words, or has an answer of the product: on numbers, on words that are read, on words that are made.
+enum Kind {
+    Note,
+    Cells(Put),
+    Lent(Put),
+    Counts(Numbers),
+    Reads(Reading),
+    Makes(Made),
+    Unknown,
 }
 
-fn making(
-    letter: u8,
-    n: [u64; 8],
-    cells: &mut [u64],
-    lent: &mut [u64],
-    made: &mut [u64],
-) -> Outcome {
-    if letter == b't' {
-        return of(makers::branch(n));
+// The letters stand in the vector file's first lines, with the numbers of each.
+fn kind_of(letter: u8) -> Kind {
+    match letter {
+        b'#' => Kind::Note,
+        b'0' => Kind::Cells(Put::Zeros),
+        b's' => Kind::Cells(Put::Element),
+        b'w' => Kind::Cells(Put::Bits),
+        b'Z' => Kind::Lent(Put::Zeros),
+        b'r' => Kind::Lent(Put::Seven),
+        b'W' => Kind::Lent(Put::Bits),
+        b'm' => Kind::Counts(Numbers::Product),
+        b'a' => Kind::Counts(Numbers::Sum),
+        b'l' => Kind::Counts(Numbers::Shift),
+        b'g' => Kind::Counts(Numbers::Geometry),
+        b'c' => Kind::Counts(Numbers::WitnessColumn),
+        b'z' => Kind::Counts(Numbers::AnyColumn),
+        b'b' => Kind::Counts(Numbers::WayBack),
+        b't' => Kind::Counts(Numbers::Branch),
+        b'k' => Kind::Reads(Reading::Check),
+        b'q' => Kind::Reads(Reading::Bits),
+        b'u' => Kind::Reads(Reading::Conditions),
+        b'p' => Kind::Reads(Reading::Sums),
+        b'o' => Kind::Reads(Reading::Rows),
+        b'v' => Kind::Makes(Made::Row),
+        b'j' => Kind::Makes(Made::Batch),
+        b'f' => Kind::Makes(Made::Filling),
+        _ => Kind::Unknown,
     }
-    if letter == b'v' {
-        return of(makers::row(n, lent, made, cells));
-    }
-    if letter == b'j' {
-        return of(makers::batch(n, lent, made, cells));
-    }
-    lending(letter, n, cells, lent)
 }
 
-fn mapping(
-    letter: u8,
-    n: [u64; 8],
-    cells: &mut [u64],
-    lent: &mut [u64],
-    made: &mut [u64],
-) -> Outcome {
-    if letter == b'c' {
-        return of(answers::witness_column(n));
+fn replay(line: Record, cells: &mut [u64], lent: &mut [u64], made: &mut [u64]) -> Outcome {
+    let n = line.numbers;
+    match kind_of(line.letter) {
+        Kind::Note => Outcome::Quiet,
+        Kind::Cells(k) => set(words::is_put(k, n, cells)),
+        Kind::Lent(k) => set(words::is_put(k, n, lent)),
+        Kind::Counts(k) => of(numbers::is_right(k, n)),
+        Kind::Reads(k) => of(readings::is_right(k, n, cells, lent)),
+        Kind::Makes(k) => of(makers::is_right(k, n, lent, made, cells)),
+        Kind::Unknown => Outcome::Wrong,
     }
-    if letter == b'z' {
-        return of(answers::any_column(n));
-    }
-    if letter == b'b' {
-        return of(answers::way_back(n));
-    }
-    if letter == b'g' {
-        return of(answers::geometry(n));
-    }
-    making(letter, n, cells, lent, made)
-}
-
-fn replay(
-    letter: u8,
-    n: [u64; 8],
-    cells: &mut [u64],
-    scratch: &mut [u64],
-    lent: &mut [u64],
-    made: &mut [u64],
-) -> Outcome {
-    if letter == b'm' {
-        return of(answers::product(n));
-    }
-    if letter == b'a' {
-        return of(answers::sum(n));
-    }
-    if letter == b'l' {
-        return of(answers::shift(n));
-    }
-    if letter == b'k' {
-        let size = (n[0] % 0x100) as usize * 8192;
-        if size <= cells.len() {
-            return of(answers::check(n, &cells[..size], scratch));
-        }
-        return Outcome::Wrong;
-    }
-    mapping(letter, n, cells, lent, made)
 }
 
 // How many answers were right, and how many others.
@@ -134,7 +95,7 @@ struct Tally {
 }
 
 fn counted(t: Tally, o: Outcome) -> Tally
-    requires { ⌜ (t .right < 1000000) × (t .wrong < 1000000) ⌝ }
+    requires { ⌜ (t .right < 0x80000) × (t .wrong < 0x80000) ⌝ }
     ensures { λ r. ⌜ (r .right ≤ t .right + 1) × (r .wrong ≤ t .wrong + 1) ⌝ }
 {
     match o {
@@ -150,39 +111,29 @@ fn counted(t: Tally, o: Outcome) -> Tally
     }
 }
 
-// A text of more than 524,288 bytes is not replayed.
-fn replay_all(
-    text: &[u8],
-    cells: &mut [u64],
-    scratch: &mut [u64],
-    lent: &mut [u64],
-    made: &mut [u64],
-) -> Tally {
+// A text of more than 0x80000 bytes is not replayed. A line has a byte at least, so the counts stay below that.
+fn replay_all(text: &[u8], cells: &mut [u64], lent: &mut [u64], made: &mut [u64]) -> Tally {
     let mut tally = Tally { right: 0, wrong: 0 };
-    if 524288 < text.len() {
+    if 0x80000 < text.len() {
         return tally;
     }
     let mut at: usize = 0;
     while at < text.len() {
         let line = line::read_line(text, at);
-        let numbers = line.numbers;
-        tally = counted(
-            tally,
-            replay(line.letter, numbers, cells, scratch, lent, made),
-        );
+        tally = counted(tally, replay(line, cells, lent, made));
         at = line.next;
     }
     tally
 }
 
+// One byte more is read than is replayed, so that a longer text is seen and not cut.
 fn main() {
-    let mut text = [0u8; 524288];
+    let mut text = [0u8; 0x80001];
     let n = io::read_full(STDIN_FILENO, &mut text);
-    let mut cells = [0u64; 32768];
-    let mut scratch = [0u64; 3072];
-    let mut lent = [0u64; 32768];
-    let mut made = [0u64; 32768];
-    let tally = replay_all(&text[..n], &mut cells, &mut scratch, &mut lent, &mut made);
+    let mut cells = [0u64; 0x8000];
+    let mut lent = [0u64; 0x8000];
+    let mut made = [0u64; 0x8000];
+    let tally = replay_all(&text[..n], &mut cells, &mut lent, &mut made);
     io::print_decimal(STDOUT_FILENO, tally.right);
     io::write_all(STDOUT_FILENO, b" answers as they should be, ");
     io::print_decimal(STDOUT_FILENO, tally.wrong);

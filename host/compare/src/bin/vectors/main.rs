@@ -1,7 +1,19 @@
 //! Writes the vector file of the program `replay` to standard output: a sample of the original's answers, so that they are replayed
-//! where the original is not at hand. Refusals, which the original does not have, are document 01's.
+//! where the original is not at hand. What the original does not have is document 01's: refusals, the bit test and the step
+//! conditions, by the readings of it that the comparison has.
 
+#[allow(dead_code)] // of each of these files the comparison uses more
+#[path = "../../verdict/answer.rs"]
+mod answer;
+#[allow(dead_code)]
+#[path = "../../filler/conditions.rs"]
+mod conditions;
+#[allow(dead_code)]
+#[path = "../../house.rs"]
+mod house;
+mod listings;
 mod makers;
+mod steps;
 mod wrong;
 
 use magnetar_cpu::circuit::{
@@ -12,6 +24,9 @@ use magnetar_field::{mul, Gf128, ONE};
 use magnetar_spartan::SparseMatrix;
 
 const REFUSED: u64 = 1 << 63;
+
+/// The batches that `replay` has room for.
+const SIZES: [usize; 3] = [1, 2, 4];
 
 /// Rows of a cycle that a mark stands for; the others are padding.
 const BIN_ROWS: usize = 483;
@@ -36,17 +51,35 @@ const PROGRAM: [u32; 14] = [
 ];
 const INPUT: u64 = 0x8123_4567_89ab_cdef;
 
+/// The first lines of the file.
+const DESCRIPTION: &str = "\
+# A sample of the original's answers (idrees2516/magnetar, commit ed6841cc0e), written by host/compare's program vectors.
+# A line is a letter and numbers. Numbers are in hex, in these lines too. Refusals, the bit test and the step conditions, which the
+# original does not have, are document 01's.
+# m a: product and sum of two elements (low, high, low, high) and the result (low, high). l: an element, a shift, the result.
+# g: cpi, w_cols, m, one_col, w128. c z: cpi, column, cycle, batch column. b: cpi, batch column, column, cycle.
+# t: opcode, funct3, RS1, RS2, and 0 for no branch, 1 taken, 2 not taken.
+# 0: all elements of the batch become 0. s: column, low, high. w: 40 columns from one on, so far apart, hold the bits of a word.
+# Z: all lent words become 0. W: as w, for the lent words. r: lent words from one on, at most seven, and 0 for those left out.
+# k: cpi, the verdict on the batch against the house listing (0 accepted, 1 fails in bin, 2 in fld), batch row, rows; or 3 and a
+# refusal's number.
+# v: public words, words of the row, the answer, 0 or a refusal; the row of the lent record (words 0 to 1d), ROM row (1e to 25) and
+# public words (from 40 on) is the batch that is set up.
+# j: cpi, words of the cycles (lent from 0 on), public words (from 4000 on), words of the batch, the answer; it is the batch that is
+# set up. But for k, a refusal in the lines so far is 8000000000000000 and its number; in those that follow it is 8000000000000000,
+# its place and 100000000 times its number.
+# q: cpi, words of the batch, the bit test's answer: 0, or 4000000000000000, the batch column that is above 1, 100000000 times its
+# column and 1000000000000 times its cycle.
+# u: cpi, words of the batch, cycle, the first step condition that is not met, 0 for none.
+# f: cpi, words of the batch, the answer; the lent words are filled, and are then the batch that is set up.
+# p: cpi, words of the batch, place and word that is changed in the house listing, relation (0 bin), row, cycle, the answer; the lent
+# words 0 to 5 are the row's sums A, B and C, or 2 after a refusal. A place past the listing's end changes nothing.
+# o: place and word that is changed in the house listing, relation and row, relation and row of the next, a place in both, the answer
+# to the opening; the lent words 0 to 7 are of each row start, end, the word at that place and the reader's position.
+";
+
 fn main() {
-    println!("# A sample of the original's answers (idrees2516/magnetar, commit ed6841cc0e), written by host/compare's program vectors.");
-    println!("# A line is a letter and numbers in hex. A refusal is 8000000000000000 and its number; refusals are document 01's.");
-    println!("# m a: product and sum of two elements (low, high, low, high) and the result (low, high). l: an element, a shift, the result.");
-    println!("# g: cpi, w_cols, m, one_col, w128. c z: cpi, column, cycle, batch column. b: cpi, batch column, column, cycle.");
-    println!("# 0: all elements of the batch become 0. s: column, low, high. w: 64 columns from one on, so far apart, hold the bits of a word.");
-    println!("# k: cpi, the verdict on the batch against the house listing (0 accepted, 1 fails in bin, 2 in fld), batch row, rows.");
-    println!("# r: seven lent words from one on. W: as w, for the lent words. Z: all lent words become 0.");
-    println!("# v: public words, words of the row, the answer, 0 or a refusal; the row of the lent record (words 0 to 29), ROM row (30 to 37) and");
-    println!("# public words (from 40 on) is the batch that is set up. t: opcode, funct3, RS1, RS2, and 0 for no branch, 1 taken, 2 not taken.");
-    println!("# j: cpi, words of the cycles (lent from 0 on), public words (from 4000 on), words of the batch, the answer; it is the batch that is set up.");
+    print!("{DESCRIPTION}");
     field();
     columns();
     checks(1);
@@ -58,9 +91,21 @@ fn main() {
     makers::rows();
     makers::batches();
     makers::branches();
-    println!("# From here on one number of each line is not the original's, or the batch that is set up not the one that is made: none is as it should be.");
+    println!("# From here on the check's refusals, the bit test, the step conditions, batches that the original makes and the filler");
+    println!("# fills, rows' sums and the listing reader.");
+    for cpi in [0, 3, 0x101] {
+        println!("k {cpi:x} 3 {:x} 0", answer::SIZE);
+    }
+    steps::bits();
+    steps::conditions();
+    steps::fillings();
+    listings::sums();
+    listings::reader();
+    println!("# From here on one number of each line is another, or what is set up or lent is not what is made, or the line is none, or");
+    println!("# there are fewer words than it asks for: none is as it should be.");
     wrong::lines();
     makers::wrong();
+    wrong::others();
 }
 
 fn field() {
@@ -177,11 +222,14 @@ fn fillings(cpi: usize) {
 fn given_column(numbers: &mut Numbers) -> usize {
     loop {
         let column = numbers.next() as usize % WITNESS_LAYOUT::USED;
-        let derived = matches!(column, 448..=511 | 576..=767 | 773 | 779 | 896..=953 | 1024..=1126);
-        if !derived {
+        if !is_derived(column) {
             return column;
         }
     }
+}
+
+fn is_derived(column: usize) -> bool {
+    matches!(column, 448..=511 | 576..=767 | 773 | 779 | 896..=953 | 1024..=1126)
 }
 
 fn fill(z: &mut [Gf128], cpi: usize) {

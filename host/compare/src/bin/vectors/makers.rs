@@ -7,7 +7,7 @@ use magnetar_cpu::interp::CycleRecord;
 use magnetar_field::Gf128;
 use words::{record_words, rom_words, words_of};
 
-use crate::{put, set_up, Numbers, INPUT, PROGRAM, REFUSED};
+use crate::{put, set_up, Numbers, INPUT, PROGRAM, REFUSED, SIZES};
 
 /// Where the public words of a row and of a batch are lent.
 const ROW_PUBLIC: usize = 64;
@@ -53,7 +53,7 @@ fn made_row(record: &CycleRecord, rom: &RomRow, public: &[Gf128]) {
 
 pub fn batches() {
     let mut numbers = Numbers(0xa55e);
-    for cpi in [1, 2, 4] {
+    for cpi in SIZES {
         for values in [0, 1, 5] {
             assembled(&mut numbers, cpi, values);
         }
@@ -176,7 +176,7 @@ fn branch_taken(funct3: u32, a: u64, b: u64) -> bool {
 }
 
 /// Seven words a line.
-fn lend(at: usize, words: &[u64]) {
+pub fn lend(at: usize, words: &[u64]) {
     for (i, words) in words.chunks(7).enumerate() {
         print!("r {:x}", at + 7 * i);
         for word in words {
@@ -186,7 +186,7 @@ fn lend(at: usize, words: &[u64]) {
     }
 }
 
-fn any_record(numbers: &mut Numbers) -> CycleRecord {
+pub fn any_record(numbers: &mut Numbers) -> CycleRecord {
     let flags = numbers.next();
     let flag = |i: u32| flags >> i & 1 == 1;
     CycleRecord {
@@ -218,7 +218,7 @@ fn any_record(numbers: &mut Numbers) -> CycleRecord {
 }
 
 /// Registers at the ends of six bits, an opcode that halts or branches in two of four.
-fn any_rom(numbers: &mut Numbers, i: usize) -> RomRow {
+pub fn any_rom(numbers: &mut Numbers, i: usize) -> RomRow {
     const REGISTERS: [usize; 8] = [0, 1, 31, 32, 63, 64, 65, usize::MAX];
     let register = |numbers: &mut Numbers| REGISTERS[numbers.next() as usize % 8];
     let opcode = [0x73, 0x63, 0x33, numbers.next() as u32 % 128][i % 4];

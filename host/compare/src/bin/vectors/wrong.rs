@@ -6,8 +6,16 @@ use std::ops::Range;
 
 use magnetar_cpu::circuit::{build_circuit_batched, WITNESS_LAYOUT};
 use magnetar_field::{mul, Gf128, ONE};
+use words::words_of;
 
-use crate::{accepted_batches, judged, put, set_up, REFUSED};
+use crate::answer::{
+    above_one, refusal, Refusal, BATCH_LENGTH, CYCLE, CYCLES_LENGTH, GIVEN_BIT, PUBLIC_LENGTH,
+    ROW_SOUGHT, SIZE,
+};
+use crate::listings::{house_rows, reader_line, said, sums_line, sums_of, unchanged};
+use crate::makers::lend;
+use crate::steps::{lend_batch, words_in};
+use crate::{accepted_batches, judged, put, set_up, Numbers, REFUSED};
 
 pub fn lines() {
     field();
@@ -68,4 +76,96 @@ fn checks() {
     z[0] = z[0] + ONE;
     put(0, z[0]);
     changed("k", &judged(&spec, &z, 1), 1..4);
+}
+
+/// The check's refusals, the bit test, the conditions, the filler, a row's sums, the reader; and lines that are none.
+pub fn others() {
+    let z = accepted_batches(1).swap_remove(0);
+    set_up(&z, 1);
+    batches(&z);
+    sums(&z);
+    reader();
+    // A letter that stands for nothing.
+    println!("x 0");
+    no_room();
+}
+
+/// Lines that ask for more words than `replay` has. Of the words that it has the answer would be right.
+fn no_room() {
+    let most = words_in(4) as u64;
+    let length = refusal(BATCH_LENGTH).answer();
+    println!("s {:x} 1 0", most / 2);
+    println!("r {:x} 0", most - 6);
+    println!("W {:x} 1 0", most / 2 - 63);
+    println!("k 8 3 {BATCH_LENGTH:x} 0");
+    println!("q 8 {:x} {length:x}", 2 * most);
+    println!("u 8 {:x} 0 {length:x}", 2 * most);
+    println!("f 8 {:x} {length:x}", 2 * most);
+    lend(0, &[2; 6]);
+    println!("p 8 {:x} dab 0 0 0 0 {length:x}", 2 * most);
+    println!("v {:x} 2000 {:x}", most - 63, REFUSED + PUBLIC_LENGTH);
+    println!("v 0 {:x} {:x}", most + 1, REFUSED + BATCH_LENGTH);
+    println!(
+        "j 1 1000 {:x} 2000 {:x}",
+        most / 2 + 1,
+        REFUSED + PUBLIC_LENGTH
+    );
+    println!("j 1 {:x} 0 2000 {:x}", most + 1, REFUSED + CYCLES_LENGTH);
+}
+
+fn batches(z: &[Gf128]) {
+    let words = words_in(1) as u64;
+    let no_size = refusal(SIZE).answer();
+    changed("k", &[3, 3, SIZE, 0], 1..3);
+    changed("q", &[1, words, 0], 2..3);
+    changed("q", &[3, words, no_size], 2..3);
+    changed("u", &[1, words, 0, 0], 3..4);
+    changed("u", &[1, words, 1, refusal(CYCLE).answer()], 3..4);
+    put(5, Gf128(2));
+    let above = Refusal {
+        number: GIVEN_BIT,
+        place: 5,
+    };
+    changed("q", &[1, words, above_one(1, 5)], 2..3);
+    changed("u", &[1, words, 0, above.answer()], 3..4);
+    put(5, z[5]);
+    lend_batch(z, 1);
+    changed("f", &[1, words, 0], 2..3);
+    changed("f", &[3, words, no_size], 2..3);
+    let derived = WITNESS_LAYOUT::CARRY_OFF;
+    put(derived, z[derived] + ONE);
+    println!("f 1 {words:x} 0");
+    put(derived, z[derived]);
+}
+
+/// What is lent with one word after the other changed in its lowest bit, each before the line.
+fn lent_changed(right: &[u64], line: &str) {
+    for at in 0..right.len() {
+        let mut lent = right.to_vec();
+        lent[at] ^= 1;
+        lend(0, &lent);
+        println!("{line}");
+    }
+    lend(0, right);
+}
+
+fn sums(z: &[Gf128]) {
+    let rows = house_rows();
+    let line = |row: u64| sums_line(1, words_in(1), unchanged(&rows), [0, row], 0);
+    let right = words_of(&sums_of(&rows[0], z, 1, 0, true));
+    lent_changed(&right, &format!("p {} 0", line(0)));
+    println!("p {} 1", line(0));
+    // A refusal leaves what was there.
+    let refused = refusal(ROW_SOUGHT).answer();
+    println!("p {} {refused:x}", line(511));
+    lend(0, &[2; 6]);
+    println!("p {} {:x}", line(511), refused + 1);
+}
+
+fn reader() {
+    let rows = house_rows();
+    let asked = [rows[0].clone(), rows[1].clone()];
+    let line = reader_line(&mut Numbers(0), unchanged(&rows), &asked, 1);
+    lent_changed(&said(&asked, 1), &format!("o {line} 0"));
+    println!("o {line} 1");
 }
