@@ -7,7 +7,7 @@ use native.Mathlib.Omega.{arith}
 use native.Mathlib.Nat.{zero-add, add-zero, suc-add, mul-assoc, pow-succ'}
 use lib.ListN.{take, drop, getD}
 use lib.Seq.{getD-drop, drop-drop, take-nil}
-use Rattle.circuit.specs.Rows.{from}
+use Rattle.base.specs.Lists.{from}
 use Rattle.cellprism.specs.Bytes.{numberOf, wordsOf}
 
 -- where a list ends, `getD` gives 0, and nothing is spelled

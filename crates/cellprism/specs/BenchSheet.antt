@@ -1,61 +1,41 @@
--- The bench sheet of document 01: P1 to P12 as one table, `BenchSheet`, and below it the table's one theorem, `bench-sheet`. Each line speaks of
--- an operation as it is called, questions and scratch included, by the definition that its contract cites. Each line's proof is the theorem of
--- the crate where the operation lives.
+-- The bench sheet of document 01: P1 to P12 as one table, `BenchSheet`, and below it the table's one theorem, `bench-sheet`. Each line
+-- speaks of an operation as it is called, questions and scratch included, by the definition that its contract cites. Each line's proof is
+-- the theorem of the crate where the operation lives.
 -- Assumes nothing.
-use mathlib.Core.Path.{_≡_, refl, sym, ap, ap₂, _∙_}
-use mathlib.Core.Bool.{Bool, true, cond, _&&_}
+use mathlib.Core.Path.{_≡_}
+use mathlib.Core.Bool.{true, cond}
 use mathlib.Core.List.{List, [], _∷_, _++_}
-use Prim.Native.Nat.{ℕ, _+_, _-_, _*_, _^_, _<_}
-use native.Mathlib.Omega.{arith}
-use lib.Dec.{lit<}
+use Prim.Native.Nat.{ℕ, _+_, _-_, _*_, _^_}
 use lib.ListN.{length, take, getD, set, replicate}
+use Rattle.base.specs.Lists.{from}
 use Rattle.field.specs.Gf.{product, element, ofWords, zero, one}
-use Rattle.field.specs.Gf.Element.{value-words, element-value, element-word}
-use Rattle.field.specs.Gf.Laws.{proper-words}
-use Rattle.field.specs.Gf.Tests.{same-self}
-use Rattle.field.specs.Gf.Sheet as field
-use Rattle.field.specs.Sums.{val}
-use Rattle.layout.specs.Columns.{ONE-COL, RS1, RD, T1, ALU, SUB, IS-LOAD, IS-STORE, IS-ARITH, RAM-ADDR, FETCH-OP}
 use Rattle.layout.specs.declared.Asked.the-variants.{Yes}
 use Rattle.layout.specs.declared.GeometryAnswer.the-variants.{Of, Refused}
 use Rattle.layout.specs.declared.ColumnAnswer.the-variants.{At}
-use Rattle.layout.specs.Batch.{geometryOf, mapped}
+use Rattle.layout.specs.Columns.{ONE-COL, RS1, RD, T1, ALU, SUB, IS-LOAD, IS-STORE, IS-ARITH, RAM-ADDR, FETCH-OP}
+use Rattle.layout.specs.Batch.{geometryOf, mapped, scratchFits, CYCLE-WORDS}
 use Rattle.layout.specs.Questions.{no}
-use Rattle.layout.specs.Lists.{joined}
-use Rattle.layout.specs.Sheet as layout
 use Rattle.circuit.specs.declared.Relation.the-variants.{Bin, Fld}
-use Rattle.circuit.specs.Rows.{from, fromEach}
 use Rattle.circuit.specs.Circuit.{circuitWords}
-use Rattle.circuit.specs.House as circuit
 use Rattle.verdict.specs.declared.Verdict.{Verdict}
 use Rattle.verdict.specs.declared.Verdict.the-variants.{Accepted, Failed}
 use Rattle.verdict.specs.declared.CheckAnswer.the-variants.{Judged}
 use Rattle.verdict.specs.Row.{elementAt}
-use Rattle.verdict.specs.OverBits.{sumBits}
 use Rattle.verdict.specs.Check.{checked}
-use Rattle.verdict.specs.Sheet as verdict
 use Rattle.step.specs.Derived.{derived}
-use Rattle.step.specs.Solve.{lacks}
-use Rattle.step.specs.Determining.{beforeHalt, afterHalt, determining}
-use Rattle.step.specs.Met.{conditions, byteOf}
-use Rattle.step.specs.Met.First.{all-true}
-use Rattle.step.specs.Fill.{Called, called}
-use Rattle.step.specs.Ones.{has, withOnes, withOutput, holding-oneRow, fits, allDerived, allHold, listed-derived}
-use Rattle.step.specs.FilledRow.{Gives, accepted, address-fails, sum-fails, output-fails}
-use Rattle.step.specs.Sheet.{number, with-ones, with-output, derived-ones}
+use Rattle.step.specs.Fill.{called}
+use Rattle.step.specs.Sheet.{has, withOnes, withOutput, number}
 use Rattle.judge.specs.FillCheck.{fillChecked}
-use Rattle.judge.specs.FillCheck.Examples.{filled-and-judged}
 use Rattle.witness.specs.declared.branch.BranchReading.the-variants.{Taken, NotTaken}
 use Rattle.witness.specs.Reading.{reading}
-use Rattle.witness.specs.Reading as witness
 
 -- ---- the words of the table
 
--- a row of one cycle is 8,192 words, two an element, the low one first: P4's, all zero, and P5's, in which only the one column is 1. Into P5's
--- row `withOnes` puts 1 in the columns listed, `number c w n` lists those where n of w bits stands at column c, low bit first, and `withOutput`
--- puts a number into the first public element after the one column.
+-- a row of one cycle is 8,192 words, two an element, the low one first: P4's, all zero, and P5's, in which only the one column is 1. Into
+-- P5's row `withOnes` puts 1 in the columns listed, `number c w n` lists those where n of w bits stands at column c, low bit first, and
+-- `withOutput` puts a number into the first public element after the one column.
 abbrev pub zeroRow : List ℕ
-zeroRow = replicate 8192 0
+zeroRow = replicate CYCLE-WORDS 0
 
 abbrev pub oneRow : List ℕ
 oneRow = set zeroRow (2 * ONE-COL) 1
@@ -63,10 +43,11 @@ oneRow = set zeroRow (2 * ONE-COL) 1
 -- the check, on a row over the house listing, with whatever stands in 3,072 words of scratch: a verdict, and zeros in the scratch
 abbrev pub Checks : List ℕ → Verdict → Type 0
 Checks row v =
-    (scratch : List ℕ) → length scratch ≡ 3072 → checked 1 circuitWords row scratch ≡ record { answer = Judged v; scratch = replicate 3072 0 }
+    (scratch : List ℕ) → scratchFits (length scratch) ≡ true → checked 1 circuitWords row scratch
+    ≡ record { answer = Judged v; scratch = replicate (length scratch) 0 }
 
--- the filler says yes to a row, and the check gives a verdict on the row that it leaves; filling and checking in one call gives that verdict
--- and leaves that row
+-- the filler says yes to a row, and the check gives a verdict on the row that it leaves; filling and checking in one call gives that
+-- verdict and leaves that row
 pub record Filled (row : List ℕ) (v : Verdict) : Type 0 where
   pub fill : called 1 row .answer ≡ Yes
   pub check : Checks (called 1 row .batch) v
@@ -104,7 +85,8 @@ pub record BenchSheet : Type 0 where
   pub p8-alu-1 : Filled (withOnes (number ALU 64 1 ++ (SUB ∷ IS-ARITH ∷ number T1 64 (2 ^ 64 - 1))) oneRow) (Failed Fld 1 485)
   -- P9  opcode 0x73, RD = RS1 = 5, else P5's, filled: output 5 accepted; 6 gives fld 3, rows 487
   pub p9-output-5 : Filled (withOutput 5 (withOnes (number FETCH-OP 7 0x73 ++ (number RD 64 5 ++ number RS1 64 5)) oneRow)) (Accepted 514)
-  pub p9-output-6 : Filled (withOutput 6 (withOnes (number FETCH-OP 7 0x73 ++ (number RD 64 5 ++ number RS1 64 5)) oneRow)) (Failed Fld 3 487)
+  pub p9-output-6 : Filled (withOutput 6 (withOnes (number FETCH-OP 7 0x73 ++ (number RD 64 5 ++ number RS1 64 5)) oneRow))
+      (Failed Fld 3 487)
   -- P10 2^63 against 1: BLT (funct3 4) taken, BLTU (6) not; BGE (5) 7, 7 taken
   pub p10-blt : reading 0x63 4 (2 ^ 63) 1 ≡ Taken
   pub p10-bltu : reading 0x63 6 (2 ^ 63) 1 ≡ NotTaken
@@ -118,69 +100,3 @@ pub record BenchSheet : Type 0 where
   pub p12-cpi-0 : geometryOf 0 ≡ Refused (no 1 0)
   pub p12-cpi-3 : geometryOf 3 ≡ Refused (no 1 0)
   pub p12-cpi-512 : geometryOf 512 ≡ Refused (no 1 0)
-
--- ---- the theorem
-
--- the number that two words spell
-spelled : (lo hi : ℕ) → lo < 2 ^ 64 → hi < 2 ^ 64 → element (hi * 2 ^ 64 + lo) ≡ ofWords lo hi
-spelled lo hi l h = ap element (sym (value-words lo hi)) ∙ element-value (proper-words lo hi l h)
-
-two-127 : element (2 ^ 127) ≡ ofWords 0 (2 ^ 63)
-two-127 = spelled 0 (2 ^ 63) (lit< tt) (lit< tt)
-
-two-64 : element (2 ^ 64) ≡ ofWords 0 1
-two-64 = spelled 0 1 (lit< tt) (lit< tt)
-
--- the filler's row is the one that it leaves
-as-called : {row : List ℕ} {v : Verdict} → Gives row v → Filled row v
-as-called {v = v} g =
-    record {
-      fill = ap (λ (k : Called). k .answer) (g .fill);
-      check = λ scratch room. ap (λ (k : Called). checked 1 circuitWords (k .batch) scratch) (g .fill) ∙ g .check scratch room;
-      fill-check = filled-and-judged g ∙ ap (λ (k : Called). record { answer = Judged v; batch = k .batch }) (sym (g .fill));
-    }
-
--- P6's row, and the computed tests of its columns
-p6-gives : Gives oneRow (Accepted 514)
-unfolding has val conditions byteOf
-p6-gives = accepted _ 0 _ holding-oneRow (fits _ _ refl) (all-true _ _ .0 refl)
-
-ones-derived : allDerived p6Ones ≡ true
-unfolding derived from
-ones-derived = refl
-
-ones-solve : allHold (has (p6Ones ++ (ONE-COL ∷ []))) determining ≡ true
-unfolding allHold has lacks sumBits determining beforeHalt afterHalt from fromEach joined
-ones-solve = refl
-
-pub bench-sheet : BenchSheet
-unfolding number has val conditions byteOf
-bench-sheet =
-    record {
-      p1 = ap₂ product two-127 (element-word (lit< tt)) ∙ field.sheet-holds .0 ∙ sym (element-word (lit< tt));
-      p2 = ap₂ product two-64 two-64 ∙ field.sheet-holds .1 .0 ∙ sym (element-word (lit< tt));
-      p3 = ap₂ product two-127 two-127 ∙ field.sheet-holds .1 .1 .0;
-      p4 = verdict.p4;
-      p5 = verdict.p5;
-      p6 = as-called p6-gives;
-      p6-listed = listed-derived p6Ones ones-derived;
-      p6-derived = λ c d. ap (λ (k : Called). elementAt (k .batch) c) (p6-gives .fill) ∙ derived-ones p6Ones ones-derived ones-solve c d;
-      p7-store = as-called (address-fails _ 0 _ (with-ones _ refl) (fits _ _ refl) refl refl);
-      p7-load-store = as-called (accepted _ 0 _ (with-ones _ refl) (fits _ _ refl) (all-true _ _ .0 refl));
-      p8-alu-0 = as-called (accepted _ 0 _ (with-ones _ refl) (fits _ _ refl) (all-true _ _ .0 refl));
-      p8-alu-1 = as-called (sum-fails _ 0 _ (with-ones _ refl) (fits _ _ refl) refl refl refl refl refl);
-      p9-output-5 =
-          as-called
-          (accepted _ 5 _ (with-output _ refl 5) (fits _ _ refl) (all-true _ _ .0 (ap (λ (k : Bool). k && true) (same-self (ofWords 5 0)))));
-      p9-output-6 = as-called (output-fails _ 6 _ (with-output _ refl 6) (fits _ _ refl) refl refl refl refl refl (λ e. omega arith));
-      p10-blt = witness.p10 .blt;
-      p10-bltu = witness.p10 .bltu;
-      p10-bge = witness.p10 .bge;
-      p11-first = circuit.p11 .first;
-      p11-last = ap (λ (n : ℕ). getD circuitWords (n - 1) 0) (circuit.counts .words) ∙ circuit.p11 .last;
-      p12-geometry = layout.p12 .four;
-      p12-column = layout.p12 .column;
-      p12-cpi-0 = layout.p12 .none;
-      p12-cpi-3 = layout.p12 .three;
-      p12-cpi-512 = layout.p12 .large;
-    }

@@ -1,7 +1,16 @@
+-- The C boundary, and the bench sheet. Packing serves contracts of private functions.
+-- What a reader must believe:
+--     Bytes             the words that bytes stand for
+--     Answer            the check of a row over the C boundary, and its answer as one 32-bit word
+--     BenchSheet        the bench sheet, P1 to P12 as one table
+--     Sheet             the boundary's answers: question 2, and the bench sheet's P4 and P5 in bytes
+--     Exact             the 32-bit answer loses nothing but the count of a failure: the statement
+--     Packing           a row that is handed over as bytes: its words, and the short way from them
+-- What follows from these, which the prover checks: Laws.
 pub mod Bytes
-pub mod Packing
 pub mod Answer
-pub mod Exact
-pub mod Back
-pub mod Sheet
 pub mod BenchSheet
+pub mod Sheet
+pub mod Exact
+pub mod Packing
+pub mod Laws

@@ -1,101 +1,17 @@
 -- A row that is handed over as bytes: its words, and the short way from them.
 -- Assumes nothing.
-use mathlib.Core.Path.{_≡_, refl, sym, ap, ap₂, subst, _∙_}
-use mathlib.Core.Logic.{_↔_}
-use mathlib.Core.Bool.{Bool, true, false, _&&_, and-true}
-use mathlib.Core.List.{List, [], _∷_}
-use Prim.Native.Nat.{ℕ, zero, suc, _+_, _*_, _^_, _≤_, _<_}
-use native.Mathlib.Decide.{decLt}
-use native.Mathlib.Nat.{pow-succ', add-zero, zero-add}
-use native.Mathlib.Omega.{arith}
-use lib.Bits.{bitOr}
-use borrow.Author.Tests.{eq-eqb}
-use lib.Dec.{eqb, lit<}
-use lib.ListN.{length, getD, take, drop, replicate, List·getD-eq-default}
-use lib.Seq.{getD-drop, drop-drop}
-use Rattle.field.specs.declared.Gf128.{Gf128}
-use Rattle.field.specs.Gf.{one, same}
-use Rattle.layout.specs.Batch.{allowed}
-use Rattle.verdict.specs.Row.{elementAt}
-use Rattle.packed.specs.Packed.{packedNamed, namedBits}
-use Rattle.packed.specs.Ranges.{Ranged}
-use Rattle.packed.specs.Named.{Named, both-ranges, named-out, not-so}
-use Rattle.judge.specs.Words.{wordsFrom, judgedWords, allJudged}
-use Rattle.judge.specs.Words.Same.{judged-agree}
-use Rattle.judge.specs.Short.{shortBits, shortYes}
-use Rattle.judge.specs.Short.Laws.{no-one, left-bits}
-use Rattle.cellprism.specs.Bytes.{numberOf, wordsOf, rowOf}
+use mathlib.Core.Path.{_≡_}
+use mathlib.Core.List.{List}
+use Prim.Native.Nat.{ℕ, _+_, _≤_}
+use lib.ListN.{length}
+use Rattle.layout.specs.Batch.{CYCLE-WORDS}
+
+-- the bytes of a row, which has n words from word i on
+abbrev pub WordsIn : List ℕ → ℕ → ℕ → Type 0
+WordsIn bytes i n = (length bytes ≡ 65536) × (i + n ≤ CYCLE-WORDS)
 
 pub record BytesIn (bytes : List ℕ) (first last : ℕ) (out : List ℕ) : Type 0 where
   pub row : length bytes ≡ 65536
   pub order : first ≤ last
   pub inside : last ≤ 32
   pub room : length out ≡ 32
-
--- ---- the words of a row
-
-pub word-of : (n i : ℕ) (bytes : List ℕ) → i < n → getD (wordsOf n bytes) i 0 ≡ numberOf (take 8 (drop (8 * i) bytes))
-unfolding wordsOf
-word-of zero i bytes l = absurd (omega arith)
-word-of (suc n) zero bytes l = refl
-word-of (suc n) (suc i) bytes l =
-    let e : 8 * suc i ≡ 8 + 8 * i = omega arith in
-    word-of n i (drop 8 bytes) (omega arith) ∙ ap (λ (b : List ℕ). numberOf (take 8 b)) (drop-drop (8 * i) 8 bytes ∙ ap (λ (k : ℕ). drop k bytes) (sym e))
-
-words-length : (n : ℕ) (bytes : List ℕ) → length (wordsOf n bytes) ≡ n
-unfolding wordsOf
-words-length zero bytes = refl
-words-length (suc n) bytes = ap suc (words-length n (drop 8 bytes))
-
-pub row-length : (bytes : List ℕ) → length (rowOf bytes) ≡ 8192
-row-length bytes = words-length 8192 bytes
-
-some-power : (n : ℕ) → 0 < 256 ^ n
-some-power zero = lit< tt
-some-power (suc n) = omega (arith, some-power n, pow-succ' 256 n)
-
-number-lt : (n : ℕ) (bs : List ℕ) → ((i : ℕ) → getD bs i 0 < 256) → numberOf (take n bs) < 256 ^ n
-unfolding numberOf
-number-lt zero bs h = lit< tt
-number-lt (suc n) [] h = some-power (suc n)
-number-lt (suc n) (b ∷ bs) h = let r = number-lt n bs (λ i. h (suc i)) in omega (arith, h 0, r, pow-succ' 256 n)
-
--- each fits in 64 bits
-pub row-fits : (bytes : List ℕ) → ((i : ℕ) → getD bytes i 0 < 256) → (i : ℕ) → getD (rowOf bytes) i 0 < 2 ^ 64
-row-fits bytes h i =
-    elim (decLt i 8192) [
-      | yes l ↦ omega (arith, word-of 8192 i bytes l, number-lt 8 (drop (8 * i) bytes) (λ j. subst (λ (x : ℕ). x < 256) (sym (getD-drop (8 * i) bytes j 0)) (h (8 * i + j))))
-      | no l ↦ let none : getD (rowOf bytes) i 0 ≡ 0 = List·getD-eq-default (rowOf bytes) 0 (omega (arith, row-length bytes)) in omega (arith, none)
-    ]
-
--- ---- the short way
-
-module _ (bytes now after : List ℕ) (low high : ℕ) (h : Ranged 1 (rowOf bytes) 0 15 (replicate 32 0) now low)
-    (g : Ranged 1 (rowOf bytes) 16 18 now after high) (o : same (elementAt (rowOf bytes) 2048) one ≡ true) where
-  abbrev row : List ℕ
-  row = rowOf bytes
-
-  named : Named 1 row (replicate 32 0) after (bitOr low high)
-  named = both-ranges 1 row (replicate 32 0) now after low high (omega arith) h g
-
-  left : shortBits 1 row (replicate 32 0) ≡ shortYes 1 row
-  unfolding allowed
-  left = left-bits 1 row refl (eq-eqb (length row) 8192 (row-length bytes)) o
-
-  pub short-judged : {x : Gf128} {r : Bool} → bitOr low high ≡ 0 → x ≡ elementAt row 2049 → r ≡ judgedWords (λ k. getD after k 0) x → r ≡ shortYes 1 row
-  unfolding shortBits allJudged
-  short-judged z e j =
-      let out = packedNamed 1 row (replicate 32 0) in let output = elementAt row 2049 in
-      j ∙ judged-agree (λ k. getD after k 0) (wordsFrom out 0) (λ k _. ap₂ (λ (u : List ℕ) (i : ℕ). getD u i 0) (named-out 1 row (replicate 32 0) after (bitOr low high) refl named) (omega arith)) _
-      ∙ ap (judgedWords (wordsFrom out 0)) e ∙ sym (and-true (judgedWords (wordsFrom out 0) output))
-      ∙ ap (λ (t : Bool). t && (judgedWords (wordsFrom out 0) output && true)) (sym (named .bits .0 z)) ∙ left
-
-  pub not-short : (bitOr low high ≡ 0 → ⊥) → false ≡ shortYes 1 row
-  unfolding shortBits
-  not-short f =
-      ap (λ (t : Bool). t && allJudged (packedNamed 1 row (replicate 32 0)) (elementAt row 2049) 1 0)
-      (sym (not-so (namedBits 1 row) (λ e. f (named .bits .1 e)))) ∙ left
-
-pub no-short : (bytes : List ℕ) → same (elementAt (rowOf bytes) 2048) one ≡ false → false ≡ shortYes 1 (rowOf bytes)
-unfolding allowed
-no-short bytes e = no-one 1 (rowOf bytes) refl (eq-eqb (length (rowOf bytes)) 8192 (row-length bytes)) e

@@ -3,7 +3,6 @@ mod bytes;
 mod short;
 
 use circuit::Relation;
-use layout::Refusal;
 use verdict::CheckAnswer;
 use verdict::Verdict;
 ghost use mathlib.Core.Path.{_≡_};
@@ -43,21 +42,18 @@ fn answer_word(answer: CheckAnswer) -> u32
     }
 }
 
-// The check of one row against the house listing: question 2 is all there is to ask. An accepted row is seen to be one from its bytes; another is
-// read into words, and the listing walked.
+// The check of one row against the house listing: question 2 is all there is to ask. An accepted row is seen to be one from its bytes;
+// another is read into words, and the listing walked.
 pub fn check_bytes(bytes: &[u8]) -> CheckAnswer
     ensures { λ r. ⌜ r ≡ rowChecked (now (bytes .entry)) ⌝ }
 {
     if bytes.len() != 65536 {
-        return CheckAnswer::Refused(Refusal {
-            number: 2,
-            place: 0,
-        });
+        return CheckAnswer::Refused(layout::refused(2));
     }
     if short::short_yes(bytes) {
         return CheckAnswer::Judged(Verdict::Accepted { rows: 514 });
     }
-    let mut words = [0u64; 8192];
+    let mut words = [0u64; layout::CYCLE_WORDS];
     bytes::read_words(bytes, &mut words);
     verdict::check_house(1, &words)
 }

@@ -4,25 +4,25 @@ use field::Gf128;
 use packed::sums::four;
 ghost use mathlib.Core.Path.{_≡_};
 ghost use mathlib.Core.Logic.{_↔_};
-ghost use Prim.Native.Nat.{_+_, _*_, _<_, _≤_};
+ghost use Prim.Native.Nat.{_+_, _*_, _<_};
 ghost use lib.ListN.{length, getD};
 ghost use Rattle.verdict.specs.Row.{elementAt};
 ghost use Rattle.packed.specs.One.{rowSum, BitsFrom};
 ghost use Rattle.packed.specs.Ranges.{Ranged};
 ghost use Rattle.judge.specs.Short.{shortYes};
 ghost use Rattle.cellprism.specs.Bytes.{rowOf};
-ghost use Rattle.cellprism.specs.Packing.{BytesIn};
+ghost use Rattle.cellprism.specs.Packing.{WordsIn, BytesIn};
 
 // Word i of the row.
 fn row_word(bytes: &[u8], i: usize) -> u64
-    requires { ⌜ (length (now bytes) ≡ 65536) × (i < 8192) ⌝ }
+    requires { ⌜ WordsIn (now bytes) i 1 ⌝ }
     ensures { λ r. ⌜ r ≡ getD (rowOf (now (bytes .entry))) i 0 ⌝ }
 {
     word_at(bytes, 8 * i)
 }
 
 fn element(bytes: &[u8], at: usize) -> Gf128
-    requires { ⌜ (length (now bytes) ≡ 65536) × (at < 4096) ⌝ }
+    requires { ⌜ WordsIn (now bytes) (2 * at) 2 ⌝ }
     ensures { λ r. ⌜ r ≡ elementAt (rowOf (now (bytes .entry))) at ⌝ }
 {
     let low = row_word(bytes, 2 * at);
@@ -32,7 +32,7 @@ fn element(bytes: &[u8], at: usize) -> Gf128
 
 // The sum of four columns, whose words stand from word i on.
 fn four_at(bytes: &[u8], i: usize) -> u64
-    requires { ⌜ (length (now bytes) ≡ 65536) × (i + 8 ≤ 8192) ⌝ }
+    requires { ⌜ WordsIn (now bytes) i 8 ⌝ }
     ensures { λ r. ⌜ r ≡ rowSum (rowOf (now (bytes .entry))) i 4 ⌝ }
 {
     let a = row_word(bytes, i);
@@ -43,7 +43,7 @@ fn four_at(bytes: &[u8], i: usize) -> u64
 }
 
 fn sixteen_at(bytes: &[u8], i: usize) -> u64
-    requires { ⌜ (length (now bytes) ≡ 65536) × (i + 32 ≤ 8192) ⌝ }
+    requires { ⌜ WordsIn (now bytes) i 32 ⌝ }
     ensures { λ r. ⌜ r ≡ rowSum (rowOf (now (bytes .entry))) i 16 ⌝ }
 {
     let a = four_at(bytes, i);
@@ -54,7 +54,7 @@ fn sixteen_at(bytes: &[u8], i: usize) -> u64
 }
 
 fn sum_at(bytes: &[u8], i: usize) -> u64
-    requires { ⌜ (length (now bytes) ≡ 65536) × (i + 128 ≤ 8192) ⌝ }
+    requires { ⌜ WordsIn (now bytes) i 128 ⌝ }
     ensures { λ r. ⌜ r ≡ rowSum (rowOf (now (bytes .entry))) i 64 ⌝ }
 {
     let a = sixteen_at(bytes, i);
@@ -66,7 +66,7 @@ fn sum_at(bytes: &[u8], i: usize) -> u64
 
 // 0 exactly where the 64 elements from word i on are bits.
 fn seen_at(bytes: &[u8], i: usize) -> u64
-    requires { ⌜ (length (now bytes) ≡ 65536) × (i + 128 ≤ 8192) ⌝ }
+    requires { ⌜ WordsIn (now bytes) i 128 ⌝ }
     ensures { λ r. ⌜ (r ≡ 0) ↔ BitsFrom (rowOf (now (bytes .entry))) i ⌝ }
 {
     let mut low: u64 = 0;

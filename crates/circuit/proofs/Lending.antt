@@ -111,7 +111,8 @@ module _ {M : Type 1} (𝓤 : URA M) (H : Heap 𝓤) (A : Atoms 𝓤) (W : Given
     )
 
     pub asks-row : {K : Type 0} {Γ : List (Item 𝓤)} {E : Env 𝓤 H} {C : Calls 𝓤 H} {Λ : Loops 𝓤 H} {p : Post 𝓤 H} {f : Name}
-        {xs : List Operand} {i : ℕ} {rest : Code} → K → FmC 𝓤 H (W .laws) C → Triple 𝓤 (C f) Row → (e : Relation) (n : ℕ) (h : ListingReader)
+        {xs : List Operand} {i : ℕ} {rest : Code} → K → FmC 𝓤 H (W .laws) C → Triple 𝓤 (C f) Row
+        → (e : Relation) (n : ℕ) (h : ListingReader)
         → Is RT.the-row e (EL.vals RT.the-type RT.Laws.the-laws e) → n < 2 ^ 64
         → ((ν : ℕ) (γ : GName) → Opds K W (raw (Row .pre (to-row e n h ν γ)) ∷ raw (Kept ν γ) ∷ Γ) E xs (Row .args (to-row e n h ν γ)))
         → (s : Spelling (R.the-row (α κ)) (spotOf 𝓤 H E i .0 ∷ [])) (m : ℕ) → nth 𝓤 H A m Γ ≡ room-of 𝓤 H E i

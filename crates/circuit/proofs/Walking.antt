@@ -222,7 +222,8 @@ module _ {M : Type 1} (𝓤 : URA M) (H : Heap 𝓤) (A : Atoms 𝓤) where
   gone (n ∷ ns) Γ = gone ns (del 𝓤 H A n (del 𝓤 H A n Γ))
 
 pub leaves : {M : Type 1} {𝓤 : URA M} {H : Heap 𝓤} {A : Atoms 𝓤} {K : Type 0} {W : Given 𝓤 H A} {Γ : List (Item 𝓤)}
-    {E : Env 𝓤 H} {G : Goal 𝓤 H} → K → (ns : List ℕ) → Done 𝓤 H A ns E Γ → Step K W (gone 𝓤 H A ns Γ) (frees (undone 𝓤 H A ns E) G) Γ (frees E G)
+    {E : Env 𝓤 H} {G : Goal 𝓤 H} → K → (ns : List ℕ) → Done 𝓤 H A ns E Γ
+    → Step K W (gone 𝓤 H A ns Γ) (frees (undone 𝓤 H A ns E) G) Γ (frees E G)
 leaves t [] d = step (λ s. s)
 leaves {E = []} t (n ∷ ns) d = absurd (d tt)
 leaves {E = l ∷ E} t (n ∷ ns) d = step (λ s. leave t n (d .1) (d .2) $ leaves t ns (d .3) $ s)

@@ -9,6 +9,7 @@ use Rattle.layout.specs.Batch.{allowed, mapped}
 use Rattle.layout.specs.Questions.{no}
 use Rattle.circuit.specs.declared.Relation.{Relation}
 use Rattle.circuit.specs.declared.Coefficient.{Coefficient}
+use Rattle.circuit.specs.declared.Side.{Side}
 use Rattle.circuit.specs.declared.Word.{Word}
 use Rattle.circuit.specs.declared.Word.the-variants.{Mark, Term as OneTerm}
 use Rattle.circuit.specs.declared.batch.BatchWord.{BatchWord}
@@ -31,7 +32,7 @@ rowIn cpi d rel r =
     (Refused (no 9 0))
 
 -- a term stands on the batch column of its column
-abbrev pub termOn : ℕ → Coefficient → ColumnAnswer → BatchWord
+abbrev pub termOn : Side → Coefficient → ColumnAnswer → BatchWord
 termOn side k (At c) = Term side k c
 termOn side k (NoColumn r) = Refused r
 

@@ -1,36 +1,32 @@
 -- The rows of `build_circuit`, family by family, in its order. Each family is a definition over its index.
 -- Assumes nothing.
 use mathlib.Core.List.{List, [], _∷_, _++_, map}
-use Prim.Native.Nat.{ℕ, _+_, _-_, _*_, _/_, _%_, _^_, zero, suc}
-use Rattle.circuit.specs.declared.Coefficient.{Coefficient}
+use Prim.Native.Nat.{ℕ, _+_, _-_, _*_, _%_, zero, suc}
+use Rattle.base.specs.Lists.{from, fromEach, joined}
+use Rattle.base.specs.Bits.{bitOf}
+use Rattle.layout.specs.Columns.{ONE-COL, RS1, RS2, RD, LOAD-VAL, SHIFT-OUT, T1, T2, CARRY-OFF, ALU, SHIFT-SRC, STORE-OLD, STORE-SRC, SUB, WE, IS-LOAD, IS-STORE, IS-ARITH, HALT, IS-SHIFT, LD-BYTE, LD-HALF, LD-WORD, TAKEN, OFF, RAM-ADDR, FETCH-OP, FETCH-FUNCT3, EQA, PA, EQB, PB, CA, CH, CH2, NH, WNL, ZERO, OPSYS, OPBR, EQFM, EQF, LTSA, LTSB, LTUA, LTUB, CEQ, CLT, CLU, ZE16, ZE8}
 use Rattle.circuit.specs.declared.Coefficient.the-variants.{Zero, Power}
 use Rattle.circuit.specs.declared.Relation.the-variants.{Bin, Fld}
-use Rattle.circuit.specs.Rows.{Term, Sides, Row, from, fromEach, numbered, encode}
-use Rattle.layout.specs.Columns.{ONE-COL, RS1, RS2, RD, LOAD-VAL, SHIFT-OUT, T1, T2, CARRY-OFF, ALU, SHIFT-SRC, STORE-OLD, STORE-SRC, SUB, WE, IS-LOAD, IS-STORE, IS-ARITH, HALT, IS-SHIFT, LD-BYTE, LD-HALF, LD-WORD, TAKEN, OFF, RAM-ADDR, FETCH-OP, FETCH-FUNCT3, EQA, PA, EQB, PB, CA, CH, CH2, NH, WNL, ZERO, OPSYS, OPBR, EQFM, EQF, LTSA, LTSB, LTUA, LTUB, CEQ, CLT, CLU, ZE16, ZE8}
-use Rattle.layout.specs.Lists.{joined}
+use Rattle.circuit.specs.Rows.{Term, Sides, Row, numbered, encode}
 
 -- 2^k times a column
-abbrev pub power : ℕ → ℕ → Term
-power k c = record { coefficient = Power k; column = c }
+abbrev pub powerTerm : ℕ → ℕ → Term
+powerTerm k c = record { coefficient = Power k; column = c }
 
 -- a column
 abbrev pub col : ℕ → Term
-col c = power 0 c
+col c = powerTerm 0 c
 
 -- the 1 of a sum
-abbrev pub one : Term
-one = col ONE-COL
+abbrev pub oneTerm : Term
+oneTerm = col ONE-COL
 
 abbrev pub row : List Term → List Term → List Term → Sides
 row a b c = record { a = a; b = b; c = c }
 
 -- x · y = z
-abbrev pub product : ℕ → ℕ → ℕ → Sides
-product x y z = row (col x ∷ []) (col y ∷ []) (col z ∷ [])
-
--- bit i of a number
-abbrev pub bitOf : ℕ → ℕ → ℕ
-bitOf n i = n / 2 ^ i % 2
+abbrev pub productRow : ℕ → ℕ → ℕ → Sides
+productRow x y z = row (col x ∷ []) (col y ∷ []) (col z ∷ [])
 
 abbrev pub ifZero : {A : Type 0} → ℕ → A → A → A
 ifZero zero a b = a
@@ -38,7 +34,7 @@ ifZero (suc n) a b = b
 
 -- 1 + x + b, which says whether x is the bit b: the 1 is written only where b is 0
 abbrev pub is : ℕ → ℕ → List Term
-is x b = ifZero b (col x ∷ one ∷ []) (col x ∷ [])
+is x b = ifZero b (col x ∷ oneTerm ∷ []) (col x ∷ [])
 
 -- the same with the 1 written always, of coefficient zero where b is 1: in all, 21 such terms
 abbrev pub isOf : ℕ → ℕ → List Term
@@ -54,7 +50,7 @@ adderRow i =
 
 -- (x + y) · 1 = 0
 abbrev pub copyRow : ℕ → ℕ → Sides
-copyRow x y = row (col x ∷ col y ∷ []) (one ∷ []) []
+copyRow x y = row (col x ∷ col y ∷ []) (oneTerm ∷ []) []
 
 abbrev pub copyRows : ℕ → List Sides
 copyRows i =
@@ -80,19 +76,19 @@ laneRows a = offsetRows a (PA + a) (EQA + a) ++ offsetRows ((a + 7) % 8) (PB + a
 
 abbrev pub conditionalRows : ℕ → List Sides
 conditionalRows a =
-    product (EQA + a) LD-BYTE (CA + a)
-    ∷ product (EQA + a) LD-HALF (CH + a)
-    ∷ product (EQB + a) LD-HALF (CH2 + a)
+    productRow (EQA + a) LD-BYTE (CA + a)
+    ∷ productRow (EQA + a) LD-HALF (CH + a)
+    ∷ productRow (EQB + a) LD-HALF (CH2 + a)
     ∷ []
 
 abbrev pub neitherRow : Sides
-neitherRow = row (col LD-WORD ∷ one ∷ []) (col LD-HALF ∷ one ∷ []) (col NH ∷ [])
+neitherRow = row (col LD-WORD ∷ oneTerm ∷ []) (col LD-HALF ∷ oneTerm ∷ []) (col NH ∷ [])
 
 abbrev pub extend16Row : Sides
-extend16Row = row (col LD-WORD ∷ one ∷ []) (col IS-LOAD ∷ []) (col ZE16 ∷ [])
+extend16Row = row (col LD-WORD ∷ oneTerm ∷ []) (col IS-LOAD ∷ []) (col ZE16 ∷ [])
 
 abbrev pub extend8Row : Sides
-extend8Row = product NH IS-LOAD ZE8
+extend8Row = productRow NH IS-LOAD ZE8
 
 -- where the gate is 1, bit b of RD is 0
 abbrev pub extensionRow : ℕ → ℕ → Sides
@@ -100,7 +96,7 @@ extensionRow gate b = row (col gate ∷ []) (col (RD + b) ∷ []) []
 
 -- a chain at x starts with its first test, and goes on with the product of what stands before and the next test
 abbrev pub chainStart : ℕ → List Term → Sides
-chainStart x test = row (col x ∷ test) (one ∷ []) []
+chainStart x test = row (col x ∷ test) (oneTerm ∷ []) []
 
 abbrev pub chainNext : ℕ → ℕ → List Term → Sides
 chainNext x i test = row (col (x + i - 1) ∷ []) test (col (x + i) ∷ [])
@@ -115,8 +111,8 @@ opcodeRows x op = chainStart x (isOf FETCH-OP (bitOf op 0)) ∷ from 1 6 (λ i. 
 -- halt is 1 exactly where the chain at OPSYS ends in 1
 abbrev pub haltRows : List Sides
 haltRows =
-    row (col HALT ∷ []) (col (OPSYS + 6) ∷ one ∷ []) []
-    ∷ row (col HALT ∷ one ∷ []) (col (OPSYS + 6) ∷ []) []
+    row (col HALT ∷ []) (col (OPSYS + 6) ∷ oneTerm ∷ []) []
+    ∷ row (col HALT ∷ oneTerm ∷ []) (col (OPSYS + 6) ∷ []) []
     ∷ []
 
 abbrev pub funct3Rows : ℕ → List Sides
@@ -129,8 +125,8 @@ funct3Rows f =
 abbrev pub comparisonRows : List Sides
 comparisonRows =
     row (col (RS1 + 63) ∷ col (RS2 + 63) ∷ []) (col (RS1 + 63) ∷ []) (col LTSA ∷ [])
-    ∷ row (col (RS1 + 63) ∷ col (RS2 + 63) ∷ one ∷ []) (col (ALU + 63) ∷ []) (col LTSB ∷ [])
-    ∷ product (T1 + 63) (T2 + 63) LTUA
+    ∷ row (col (RS1 + 63) ∷ col (RS2 + 63) ∷ oneTerm ∷ []) (col (ALU + 63) ∷ []) (col LTSB ∷ [])
+    ∷ productRow (T1 + 63) (T2 + 63) LTUA
     ∷ row (col (CARRY-OFF + 63) ∷ []) (col (T1 + 63) ∷ col (T2 + 63) ∷ []) (col LTUB ∷ [])
     ∷ []
 
@@ -138,7 +134,7 @@ abbrev pub muxRows : List Sides
 muxRows =
     row (col EQF ∷ col (EQF + 1) ∷ []) (col (ZERO + 63) ∷ []) (col CEQ ∷ [])
     ∷ row (col (EQF + 4) ∷ col (EQF + 5) ∷ []) (col LTSA ∷ col LTSB ∷ []) (col CLT ∷ [])
-    ∷ row (col (EQF + 6) ∷ col (EQF + 7) ∷ []) (col LTUA ∷ col LTUB ∷ one ∷ []) (col CLU ∷ [])
+    ∷ row (col (EQF + 6) ∷ col (EQF + 7) ∷ []) (col LTUA ∷ col LTUB ∷ oneTerm ∷ []) (col CLU ∷ [])
     ∷ []
 
 abbrev pub takenRow : Sides
@@ -147,7 +143,7 @@ takenRow =
     (col CEQ ∷ col (EQF + 1) ∷ col CLT ∷ col (EQF + 5) ∷ col CLU ∷ col (EQF + 7) ∷ []) (col TAKEN ∷ [])
 
 abbrev pub writeGateRow : Sides
-writeGateRow = row (col WE ∷ []) (col IS-LOAD ∷ one ∷ []) (col WNL ∷ [])
+writeGateRow = row (col WE ∷ []) (col IS-LOAD ∷ oneTerm ∷ []) (col WNL ∷ [])
 
 unfoldable pub binFamilies : List (List Sides)
 binFamilies =
@@ -176,7 +172,7 @@ binFamilies =
 
 -- bits i below n of the words that start at the columns xs, bit i with coefficient 2^i
 abbrev pub packed : ℕ → List ℕ → List Term
-packed n xs = fromEach 0 n (λ i. map (λ x. power i (x + i)) xs)
+packed n xs = fromEach 0 n (λ i. map (λ x. powerTerm i (x + i)) xs)
 
 -- where column x is 1, the words at y and z agree in their low n bits
 abbrev pub agreeRow : ℕ → ℕ → ℕ → ℕ → Sides
@@ -186,7 +182,7 @@ abbrev pub sumRow : Sides
 sumRow = row (packed 64 (T1 ∷ T2 ∷ CARRY-OFF ∷ ALU ∷ [])) (col IS-ARITH ∷ []) []
 
 abbrev pub firstCarryRow : Sides
-firstCarryRow = product SUB ONE-COL CARRY-OFF
+firstCarryRow = productRow SUB ONE-COL CARRY-OFF
 
 -- where halt is 1, RD is the public output
 abbrev pub outputRow : Sides

@@ -1,7 +1,9 @@
 -- The rows that a listing's words stand for. It reads from the right: a mark heads a row of the terms behind it.
 -- Assumes nothing.
 use mathlib.Core.List.{List, [], _∷_}
-use Prim.Native.Nat.{ℕ, zero, suc}
+use Prim.Native.Nat.{ℕ}
+use Rattle.circuit.specs.declared.Side.{Side}
+use Rattle.circuit.specs.declared.Side.the-variants.{A, B, C}
 use Rattle.circuit.specs.declared.Word.{Word}
 use Rattle.circuit.specs.declared.Word.the-variants.{Mark, Term as TermWord}
 use Rattle.circuit.specs.Words.{wordOf}
@@ -15,11 +17,11 @@ pub record Parsed : Type 0 where
 abbrev pub empty : Sides
 empty = record { a = []; b = []; c = [] }
 
--- one more term in front of side A (0), B (1) or C (any other)
-abbrev pub inFront : ℕ → Term → Sides → Sides
-inFront zero t s = record { a = t ∷ s .a; b = s .b; c = s .c }
-inFront (suc zero) t s = record { a = s .a; b = t ∷ s .b; c = s .c }
-inFront (suc (suc k)) t s = record { a = s .a; b = s .b; c = t ∷ s .c }
+-- one more term in front of a side
+abbrev pub inFront : Side → Term → Sides → Sides
+inFront A t s = record { a = t ∷ s .a; b = s .b; c = s .c }
+inFront B t s = record { a = s .a; b = t ∷ s .b; c = s .c }
+inFront C t s = record { a = s .a; b = s .b; c = t ∷ s .c }
 
 abbrev pub addWord : Word → Parsed → Parsed
 addWord (Mark rel n) p = record { before = empty; rows = record { relation = rel; number = n; sides = p .before } ∷ p .rows }

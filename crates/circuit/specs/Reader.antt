@@ -2,9 +2,8 @@
 -- Assumes nothing.
 use mathlib.Core.Path.{_≡_}
 use mathlib.Core.List.{List, []}
-use Prim.Native.Nat.{ℕ, _≤_}
+use Prim.Native.Nat.{ℕ}
 use denote.Ref.{now}
-use lib.ListN.{length}
 use Rattle.layout.specs.declared.Asked.{Asked}
 use Rattle.layout.specs.declared.Asked.the-variants.{Yes, No}
 use Rattle.circuit.specs.declared.Relation.{Relation}
@@ -15,7 +14,6 @@ use Rattle.circuit.specs.declared.reader.Opened.{Opened}
 use Rattle.circuit.specs.declared.reader.RowAnswer.{RowAnswer}
 use Rattle.circuit.specs.Valid.{validated}
 use Rattle.circuit.specs.Found.{found, partOf}
-use Rattle.circuit.specs.Search.{Within, found-within}
 
 -- a refused opening gives a reader over no words
 abbrev pub admitted : Asked → List ℕ → List ℕ
@@ -40,14 +38,6 @@ pub record AnswersRow (r : ListingReader) (rel : Relation) (n : ℕ) (a : RowAns
   pub part : now (a .part) ≡ partOf (found (now (r .listing)) rel n) (now (r .listing))
   pub words : r′ .listing ≡ r .listing
   pub position : r′ .position ≡ positionAfter (found (now (r .listing)) rel n) (r .position)
-
--- so whatever a reader is asked, its position stays one from which its words can be read on
-pub position-within : (ws : List ℕ) (rel : Relation) (n position : ℕ) → position ≤ length ws → positionAfter (found ws rel n) position ≤ length ws
-position-within ws rel n position h = by-place (found ws rel n) (found-within ws rel n)
-  where
-    by-place : (f : Found) → Within ws f → positionAfter f position ≤ length ws
-    by-place (At start end) within = within .1
-    by-place (Refused r) within = h
 
 -- the refusal of the opening comes before that of the search
 abbrev pub rowOf : Asked → Found → Found

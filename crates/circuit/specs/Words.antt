@@ -7,6 +7,8 @@ use Rattle.circuit.specs.declared.Relation.{Relation}
 use Rattle.circuit.specs.declared.Relation.the-variants.{Bin, Fld}
 use Rattle.circuit.specs.declared.Coefficient.{Coefficient}
 use Rattle.circuit.specs.declared.Coefficient.the-variants.{Zero, Power}
+use Rattle.circuit.specs.declared.Side.{Side}
+use Rattle.circuit.specs.declared.Side.the-variants.{A, B, C}
 use Rattle.circuit.specs.declared.Word.{Word}
 use Rattle.circuit.specs.declared.Word.the-variants.{Mark, Term}
 
@@ -18,12 +20,22 @@ bits lo n w = w / 2 ^ lo % 2 ^ n
 abbrev pub kindOf : ℕ → ℕ
 kindOf w = w / 2 ^ 30
 
--- the word stands behind the terms of a side: for side 2 it is a mark
-abbrev pub past : ℕ → ℕ → Bool
-past side w = ltb side (kindOf w)
+-- the kind of a side's terms
+abbrev pub sideKind : Side → ℕ
+sideKind A = 0
+sideKind B = 1
+sideKind C = 2
+
+-- the side of a term
+abbrev pub sideOf : ℕ → Side
+sideOf w = cond (eqb (kindOf w) (sideKind A)) A (cond (eqb (kindOf w) (sideKind B)) B C)
+
+-- the word stands behind the terms of a side: for side C it is a mark
+abbrev pub past : Side → ℕ → Bool
+past side w = ltb (sideKind side) (kindOf w)
 
 abbrev pub isMark : ℕ → Bool
-isMark w = past 2 w
+isMark w = past C w
 
 -- bit 29: set in the mark of a fld row, and in a term of coefficient zero
 abbrev pub flagOf : ℕ → ℕ
@@ -44,7 +56,7 @@ coefficientOf w = cond (eqb (flagOf w) 0) (Power (bits 12 6 w)) Zero
 -- a mark's row is in bits 8..0, a term's column in bits 11..0
 unfoldable pub wordOf : ℕ → Word
 wordOf w =
-    cond (isMark w) (Mark (relationOf w) (w % 2 ^ 9)) (Term (kindOf w) (coefficientOf w) (w % 2 ^ 12))
+    cond (isMark w) (Mark (relationOf w) (w % 2 ^ 9)) (Term (sideOf w) (coefficientOf w) (w % 2 ^ 12))
 
 -- ---- and back: the word of a mark, and of a term
 
@@ -55,6 +67,6 @@ flagWord Fld = 1
 abbrev pub markWord : Relation → ℕ → ℕ
 markWord rel n = 3 * 2 ^ 30 + flagWord rel * 2 ^ 29 + n
 
-abbrev pub termWord : ℕ → Coefficient → ℕ → ℕ
-termWord kind (Power k) c = kind * 2 ^ 30 + k * 2 ^ 12 + c
-termWord kind Zero c = kind * 2 ^ 30 + 2 ^ 29 + c
+abbrev pub termWord : Side → Coefficient → ℕ → ℕ
+termWord side (Power k) c = sideKind side * 2 ^ 30 + k * 2 ^ 12 + c
+termWord side Zero c = sideKind side * 2 ^ 30 + 2 ^ 29 + c

@@ -2,6 +2,7 @@
 // And the way back from a batch row, as a verdict names it, to the cycle and its row.
 use crate::Coefficient;
 use crate::Relation;
+use crate::Side;
 use crate::Word;
 use crate::search::rows_a_cycle;
 use crate::words;
@@ -19,7 +20,7 @@ pub enum BatchWord {
         row: usize,
     },
     Term {
-        side: u32,
+        side: Side,
         coefficient: Coefficient,
         column: usize,
     },
@@ -39,16 +40,10 @@ fn row_in_cycle(relation: Relation, row: usize, cpi: usize, cycle: usize) -> Bat
 {
     let rows = rows_a_cycle(relation);
     if rows <= row {
-        return BatchWord::Refused(Refusal {
-            number: 9,
-            place: 0,
-        });
+        return BatchWord::Refused(layout::refused(9));
     }
     if cpi <= cycle {
-        return BatchWord::Refused(Refusal {
-            number: 15,
-            place: 0,
-        });
+        return BatchWord::Refused(layout::refused(15));
     }
     BatchWord::Row {
         relation,
@@ -58,7 +53,7 @@ fn row_in_cycle(relation: Relation, row: usize, cpi: usize, cycle: usize) -> Bat
 
 // A term on the batch column of its column.
 fn term_in_cycle(
-    side: u32,
+    side: Side,
     coefficient: Coefficient,
     column: usize,
     cpi: usize,
@@ -82,16 +77,10 @@ pub fn build_circuit_batched(cpi: usize, cycle: usize, w: u32) -> BatchWord
     ensures { λ r. ⌜ r ≡ batched cpi cycle w ⌝ }
 {
     if !layout::is_allowed(cpi) {
-        return BatchWord::Refused(Refusal {
-            number: 1,
-            place: 0,
-        });
+        return BatchWord::Refused(layout::refused(1));
     }
     if !words::is_clean(w) {
-        return BatchWord::Refused(Refusal {
-            number: 7,
-            place: 0,
-        });
+        return BatchWord::Refused(layout::refused(7));
     }
     let word = words::read_word(w);
     match word {
@@ -109,17 +98,11 @@ pub fn unmap_row(cpi: usize, relation: Relation, batch_row: usize) -> CycleRowAn
     ensures { λ r. ⌜ r ≡ unmappedRow cpi relation «batch_row» ⌝ }
 {
     if !layout::is_allowed(cpi) {
-        return CycleRowAnswer::Refused(Refusal {
-            number: 1,
-            place: 0,
-        });
+        return CycleRowAnswer::Refused(layout::refused(1));
     }
     let rows = rows_a_cycle(relation);
     if rows * cpi <= batch_row {
-        return CycleRowAnswer::Refused(Refusal {
-            number: 14,
-            place: 0,
-        });
+        return CycleRowAnswer::Refused(layout::refused(14));
     }
     CycleRowAnswer::At {
         cycle: batch_row / rows,

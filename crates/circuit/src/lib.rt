@@ -25,14 +25,21 @@ pub enum Coefficient {
     Power(u32),
 }
 
-// What a word of a listing stands for: the mark of a row, or a term on side A (0), B (1) or C (2).
+// The sides of a row, which holds when A · B = C.
+pub enum Side {
+    A,
+    B,
+    C,
+}
+
+// What a word of a listing stands for: the mark of a row, or a term on one of its sides.
 pub enum Word {
     Mark {
         relation: Relation,
         row: usize,
     },
     Term {
-        side: u32,
+        side: Side,
         coefficient: Coefficient,
         column: usize,
     },

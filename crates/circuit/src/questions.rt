@@ -7,7 +7,7 @@ ghost use Rattle.circuit.specs.Valid.{afterMark, afterTerm, afterWord, v
 
 // What is known after some words: low is the least place that the next mark may have in the order of marks, 0 before the first; kind
 // is that of the last term of the row.
-pub enum Progress {
+enum Progress {
     Go { low: u32, kind: u32 },
     Stop { number: u8 },
 }
@@ -61,10 +61,7 @@ pub fn validate(listing: &[u32]) -> Asked
     ensures { λ r. ⌜ r ≡ validated (now (listing .entry)) ⌝ }
 {
     if 16384 < listing.len() {
-        return Asked::No(Refusal {
-            number: 6,
-            place: 0,
-        });
+        return Asked::No(layout::refused(6));
     }
     let mut low: u32 = 0;
     let mut kind: u32 = 0;

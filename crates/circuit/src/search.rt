@@ -66,17 +66,15 @@ fn next_mark(listing: &[u32], i: usize) -> usize
 pub fn find_row(listing: &[u32], relation: Relation, row: usize) -> Found
     ensures { λ r. ⌜ r ≡ found (now (listing .entry)) relation row ⌝ }
 {
-    if row < rows_a_cycle(relation) {
-        let start = index_of(listing, mark_word(relation, row as u32));
-        if start < listing.len() {
-            let end = next_mark(listing, start + 1);
-            return Found::At { start, end };
-        }
+    if rows_a_cycle(relation) <= row {
+        return Found::Refused(layout::refused(13));
     }
-    Found::Refused(Refusal {
-        number: 13,
-        place: 0,
-    })
+    let start = index_of(listing, mark_word(relation, row as u32));
+    if listing.len() <= start {
+        return Found::Refused(layout::refused(13));
+    }
+    let end = next_mark(listing, start + 1);
+    Found::At { start, end }
 }
 
 // The words from start on, up to but not including end, as far as the listing has them.

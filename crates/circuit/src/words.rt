@@ -1,9 +1,33 @@
 // The house format: what a word of a listing stands for.
 use crate::Coefficient;
 use crate::Relation;
+use crate::Side;
 use crate::Word;
 ghost use mathlib.Core.Path.{_≡_};
-ghost use Rattle.circuit.specs.Words.{cleanOf, relationOf, coefficientOf, wordOf};
+ghost use Rattle.circuit.specs.Words.{sideKind, sideOf, cleanOf, relationOf, coefficientOf, wordOf};
+
+// The kind of a side's terms.
+pub fn side_kind(side: Side) -> u32
+    ensures { λ r. ⌜ r ≡ sideKind side ⌝ }
+{
+    match side {
+        Side::A => 0,
+        Side::B => 1,
+        Side::C => 2,
+    }
+}
+
+fn side_of(w: u32) -> Side
+    ensures { λ r. ⌜ r ≡ sideOf w ⌝ }
+{
+    if w >> 30 == 0 {
+        return Side::A;
+    }
+    if w >> 30 == 1 {
+        return Side::B;
+    }
+    Side::C
+}
 
 // Question 7: the must-be-zero bits of a word are zero.
 pub fn is_clean(w: u32) -> bool
@@ -49,7 +73,7 @@ pub fn read_word(w: u32) -> Word
         }
     } else {
         Word::Term {
-            side: w >> 30,
+            side: side_of(w),
             coefficient: coefficient_of(w),
             column: (w % 4096) as usize,
         }

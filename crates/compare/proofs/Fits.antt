@@ -11,18 +11,20 @@ use lib.Dec.{eqb, ltb}
 use Rattle.layout.specs.Batch.{allowed, columnAt, mapped}
 use Rattle.layout.specs.Columns.{W-COLS, ONE-COL}
 use Rattle.layout.specs.Questions.{no}
-use Rattle.layout.specs.Sizes.{allowed-range}
+use Rattle.layout.specs.Laws.Sizes.{allowed-range}
 use Rattle.layout.specs.declared.ColumnAnswer.the-variants.{At, Refused as NoColumn}
 use Rattle.circuit.specs.declared.Relation.{Relation}
 use Rattle.circuit.specs.declared.Relation.the-variants.{Bin, Fld}
 use Rattle.circuit.specs.declared.Coefficient.{Coefficient}
 use Rattle.circuit.specs.declared.Coefficient.the-variants.{Zero, Power}
+use Rattle.circuit.specs.declared.Side.{Side}
 use Rattle.circuit.specs.declared.Word.{Word}
 use Rattle.circuit.specs.declared.Word.the-variants.{Mark, Term as OneTerm}
 use Rattle.circuit.specs.declared.batch.BatchWord.{BatchWord}
 use Rattle.circuit.specs.declared.batch.BatchWord.the-variants.{Row, Refused}
-use Rattle.circuit.specs.Words.{bits, kindOf, isMark, flagOf, cleanOf, relationOf, coefficientOf, wordOf}
+use Rattle.circuit.specs.Words.{bits, sideOf, isMark, flagOf, cleanOf, relationOf, coefficientOf, wordOf}
 use Rattle.circuit.specs.Found.{rowsACycle}
+use Rattle.circuit.specs.Laws.Words.{kind-small}
 use Rattle.circuit.specs.Batched.{batchRow, rowIn, termOn, inCycle, batched}
 use Rattle.compare.specs.Numbers.{keptPlace, coefficientNumber, markNumber, batchNumber, wordNumber}
 
@@ -54,9 +56,9 @@ pub word-fits : (w : ℕ) → w < 2 ^ 32 → WordFits (wordOf w)
 unfolding wordOf
 word-fits w h = by-test (isMark w)
   where
-    by-test : (m : Bool) → WordFits (cond m (Mark (relationOf w) (w % 2 ^ 9)) (OneTerm (kindOf w) (coefficientOf w) (w % 2 ^ 12)))
+    by-test : (m : Bool) → WordFits (cond m (Mark (relationOf w) (w % 2 ^ 9)) (OneTerm (sideOf w) (coefficientOf w) (w % 2 ^ 12)))
     by-test true = omega (arith, mark-small (relationOf w))
-    by-test false = omega (arith, coefficient-small w)
+    by-test false = omega (arith, coefficient-small w, kind-small (sideOf w))
 
 module _ (cpi d : ℕ) (ok : allowed cpi ≡ true) where
   row-fits : (rel : Relation) (r : ℕ) → Fits (rowIn cpi d rel r)
@@ -81,14 +83,14 @@ module _ (cpi d : ℕ) (ok : allowed cpi ≡ true) where
           omega (arith, mul-le-mul {n₁ = c} {m₁ = cpi} {n₂ = 4096} {m₂ = 256} (omega arith) (range .1))
       by-test false = omega (arith, allowed-range cpi ok)
 
-  term-fits : (side c : ℕ) (k : Coefficient) → side ≤ 3 → coefficientNumber k ≤ 255 → Fits (termOn side k (mapped 4096 cpi c d))
+  term-fits : (side : Side) (c : ℕ) (k : Coefficient) → coefficientNumber k ≤ 255 → Fits (termOn side k (mapped 4096 cpi c d))
   unfolding mapped
-  term-fits side c k hs hk = rw ok (by-tests (ltb c 4096) (ltb d cpi) refl refl)
+  term-fits side c k hk = rw ok (by-tests (ltb c 4096) (ltb d cpi) refl refl)
     where
       by-tests :
           (s t : Bool) → ltb c 4096 ≡ s → ltb d cpi ≡ t
           → Fits (termOn side k (cond s (cond t (At (columnAt cpi c d)) (NoColumn (no 15 0))) (NoColumn (no 14 0))))
-      by-tests true true e f = omega (arith, column-small c (ltb-true _ _ e) (ltb-true _ _ f))
+      by-tests true true e f = omega (arith, kind-small side, column-small c (ltb-true _ _ e) (ltb-true _ _ f))
       by-tests true false e f = omega arith
       by-tests false t e f = omega arith
 
@@ -100,10 +102,10 @@ batched-fits cpi d w h = by-tests (allowed cpi) (cleanOf w) (isMark w) refl
         (a q m : Bool) → allowed cpi ≡ a
         → Fits
         (cond a
-        (cond q (inCycle cpi d (cond m (Mark (relationOf w) (w % 2 ^ 9)) (OneTerm (kindOf w) (coefficientOf w) (w % 2 ^ 12))))
+        (cond q (inCycle cpi d (cond m (Mark (relationOf w) (w % 2 ^ 9)) (OneTerm (sideOf w) (coefficientOf w) (w % 2 ^ 12))))
         (Refused (no 7 0)))
         (Refused (no 1 0)))
     by-tests true true true ok = row-fits cpi d ok (relationOf w) (w % 2 ^ 9)
-    by-tests true true false ok = term-fits cpi d ok (kindOf w) (w % 2 ^ 12) (coefficientOf w) (omega arith) (coefficient-small w)
+    by-tests true true false ok = term-fits cpi d ok (sideOf w) (w % 2 ^ 12) (coefficientOf w) (coefficient-small w)
     by-tests true false m ok = omega arith
     by-tests false q m ok = omega arith

@@ -7,8 +7,6 @@ use lib.Dec.{eqb, ltb}
 use lib.ListN.{length, getD, drop}
 use Rattle.field.specs.declared.Gf128.{Gf128}
 use Rattle.field.specs.Gf.{low, high}
-use Rattle.layout.specs.Segments.{segments, segmentNames, segmentStarts, segmentLengths}
-use Rattle.layout.specs.Questions.{no}
 use Rattle.layout.specs.declared.Refusal.{Refusal}
 use Rattle.layout.specs.declared.InstanceGeometry.{InstanceGeometry}
 use Rattle.layout.specs.declared.GeometryAnswer.{GeometryAnswer}
@@ -17,6 +15,10 @@ use Rattle.layout.specs.declared.ColumnAnswer.{ColumnAnswer}
 use Rattle.layout.specs.declared.ColumnAnswer.the-variants.{At, Refused as NoColumn}
 use Rattle.layout.specs.declared.CycleColumnAnswer.{CycleColumnAnswer}
 use Rattle.layout.specs.declared.CycleColumnAnswer.the-variants.{At as In, Refused as NoCycleColumn}
+use Rattle.layout.specs.declared.Asked.{Asked}
+use Rattle.layout.specs.declared.Asked.the-variants.{Yes, No}
+use Rattle.layout.specs.Segments.{segments, segmentNames, segmentStarts, segmentLengths}
+use Rattle.layout.specs.Questions.{no, Called}
 use Rattle.circuit.specs.declared.Relation.{Relation}
 use Rattle.circuit.specs.declared.Relation.the-variants.{Bin, Fld}
 use Rattle.circuit.specs.declared.Coefficient.{Coefficient}
@@ -29,6 +31,7 @@ use Rattle.circuit.specs.declared.batch.CycleRowAnswer.{CycleRowAnswer}
 use Rattle.circuit.specs.declared.batch.CycleRowAnswer.the-variants.{At as RowOf, Refused as NoCycleRow}
 use Rattle.circuit.specs.declared.search.Found.{Found}
 use Rattle.circuit.specs.declared.search.Found.the-variants.{At as Stands, Refused as NotFound}
+use Rattle.circuit.specs.Words.{sideKind}
 use Rattle.circuit.specs.Valid.{validated}
 use Rattle.circuit.specs.Found.{found, partOf}
 use Rattle.circuit.specs.Reader.{admitted, positionAfter}
@@ -42,15 +45,12 @@ use Rattle.verdict.specs.declared.ApplyAnswer.the-variants.{Of as Summed, Refus
 use Rattle.verdict.specs.declared.bits.BitAnswer.{BitAnswer}
 use Rattle.verdict.specs.declared.bits.BitAnswer.the-variants.{AllBits, NotBit, Refused as NotTested}
 use Rattle.verdict.specs.Check.{Checked}
-use Rattle.layout.specs.declared.Asked.{Asked}
-use Rattle.layout.specs.declared.Asked.the-variants.{Yes, No}
-use Rattle.step.specs.declared.conditions.StepAnswer.{StepAnswer}
-use Rattle.step.specs.declared.conditions.StepAnswer.the-variants.{Meets, Unmet, Refused as NotAsked}
-use Rattle.step.specs.Fill.{Called}
-use Rattle.judge.specs.FillCheck.{FillChecked}
+use Rattle.filler.specs.declared.conditions.StepAnswer.{StepAnswer}
+use Rattle.filler.specs.declared.conditions.StepAnswer.the-variants.{Meets, Unmet, Refused as NotAsked}
 use Rattle.packed.specs.declared.Packing.{Packing}
 use Rattle.packed.specs.declared.Packing.the-variants.{Bits, NotBits, Refused as NotPacked}
 use Rattle.packed.specs.Packed.{PackCalled}
+use Rattle.judge.specs.FillCheck.{FillChecked}
 use Rattle.compare.specs.declared.reader.TwoRows.{TwoRows}
 
 -- the low word of an element for 0, else the high one
@@ -102,7 +102,7 @@ markNumber Fld = 4
 -- a batch row or column, 2^32 times the coefficient, and 2^40 times the kind: 0, 1, 2 a term of A, B, C; 3 a bin and 4 a fld mark
 abbrev pub batchNumber : BatchWord → ℕ
 batchNumber (Row rel n) = n + markNumber rel * 2 ^ 40
-batchNumber (Term side k c) = c + coefficientNumber k * 2 ^ 32 + side * 2 ^ 40
+batchNumber (Term side k c) = c + coefficientNumber k * 2 ^ 32 + sideKind side * 2 ^ 40
 batchNumber (Refused r) = refusedAt r
 
 -- a word by itself: its row or column as it stands there, and the rest as above

@@ -1,9 +1,9 @@
--- Records and ROM rows as words, for a caller in another language: a field a word, in the order of the struct. A flag is set where its word is odd;
--- a narrow field takes its word's low bits.
+-- Records and ROM rows as words, for a caller in another language: a field a word, in the order of the struct. A flag is set where its
+-- word is odd; a narrow field takes its word's low bits.
 -- Assumes nothing.
 use mathlib.Core.Bool.{Bool, cond}
 use mathlib.Core.List.{List}
-use Prim.Native.Nat.{ℕ, zero, suc, _%_, _^_}
+use Prim.Native.Nat.{ℕ, _%_, _^_}
 use lib.Dec.{eqb, ltb}
 use lib.ListN.{length, getD}
 use Rattle.witness.specs.declared.records.CycleRecord.{CycleRecord}

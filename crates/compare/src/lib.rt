@@ -1,7 +1,7 @@
 // What the comparison with the original calls from Rust: the product's own functions behind C names, on numbers alone. Not part of
 // the product's C boundary.
 pub mod check;
-pub mod filler;
+pub mod fills;
 pub mod makers;
 pub mod packing;
 pub mod reader;
@@ -185,7 +185,7 @@ fn batch_number(w: BatchWord) -> u64
         } => {
             column as u64
                 + coefficient_number(coefficient) * 0x100000000
-                + side as u64 * 0x10000000000
+                + circuit::words::side_kind(side) as u64 * 0x10000000000
         }
         BatchWord::Refused(r) => refused_at(r),
     }

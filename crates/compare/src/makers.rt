@@ -2,12 +2,11 @@
 ghost use mathlib.Core.Path.{_≡_};
 ghost use Prim.Native.Nat.{_≤_};
 ghost use lib.ListN.{length};
-ghost use Rattle.witness.specs.Row.{rowCalled};
 ghost use Rattle.witness.specs.Assembly.{assemblyCalled};
 ghost use Rattle.witness.specs.Reading.{reading};
 ghost use Rattle.compare.specs.Numbers.{reply, fillReply};
 ghost use Rattle.compare.specs.Records.{recordOf, kindOf, romRowOf, rowReply, readingNumber};
-use crate::filler::asked_number;
+use crate::fills::asked_number;
 use witness::branch::BranchReading;
 use witness::records::CycleRecord;
 use witness::records::RomRow;

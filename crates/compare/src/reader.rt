@@ -6,7 +6,7 @@ ghost use lib.ListN.{length, drop};
 ghost use Rattle.compare.specs.Numbers.{reply, chosenRelation, twoRows, startNumber, endNumber, rowWords, readerReply};
 use crate::check::chosen_relation;
 use crate::check::refused_at;
-use crate::filler::asked_number;
+use crate::fills::asked_number;
 use crate::search::word_at;
 use circuit::Relation;
 use circuit::reader::ListingReader;

@@ -23,7 +23,8 @@ straddle w j k hi lo e =
 
     moved : (hi * 2 ^ (j + k) + lo) / 2 ^ j ≡ hi * 2 ^ k + lo / 2 ^ j
     moved =
-        ap (λ (x : ℕ). (x + lo) / 2 ^ j) (ap (λ (x : ℕ). hi * x) (pow-add 2 j k ∙ mul-comm (2 ^ j) (2 ^ k)) ∙ sym (mul-assoc hi (2 ^ k) (2 ^ j)))
+        ap (λ (x : ℕ). (x + lo) / 2 ^ j)
+        (ap (λ (x : ℕ). hi * x) (pow-add 2 j k ∙ mul-comm (2 ^ j) (2 ^ k)) ∙ sym (mul-assoc hi (2 ^ k) (2 ^ j)))
         ∙ ap (λ (x : ℕ). x / 2 ^ j) (add-comm (hi * 2 ^ k * 2 ^ j) lo) ∙ add-mul-div-right lo (hi * 2 ^ k) (pow-pos j) ∙ add-comm _ _
 
     go : lo < 2 ^ (j + k) → (hi * 2 ^ (j + k) + lo) / 2 ^ j % 2 ^ (j + k) ≡ bitOr (hi * 2 ^ k % 2 ^ (j + k)) (lo / 2 ^ j)

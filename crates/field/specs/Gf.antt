@@ -15,7 +15,8 @@ pub mod Tests
 pub mod Loops
 pub mod Packed
 pub mod Sheet
-use mathlib.Core.Bool.{Bool, _&&_, _||_}
+use mathlib.Core.Bool.{Bool, _&&_, _||_, cond}
+use mathlib.Core.Path.{_≡_}
 use Prim.Native.Nat.{ℕ, suc, _+_, _*_, _/_, _%_, _^_, _<_}
 use lib.Bits.{bitXor}
 use lib.Dec.{eqb}
@@ -112,3 +113,17 @@ shifted x k = element (value x * 2 ^ k)
 -- t^k as the bit k alone: zero from k = 128 on
 pub power : ℕ → Gf128
 power k = shifted one k
+
+-- the element of a bit
+abbrev pub ofBit : Bool → Gf128
+ofBit b = cond b one zero
+
+-- r is a remainder of the carry-less product of a and b
+pub record IsProduct (a b r : ℕ) : Type 0 where
+  pub small : r < 2 ^ 128
+  pub quotient : ℕ
+  pub divides : clmul a b ≡ r ⊕ clmul modulus quotient
+
+-- whether the coefficient of t^0 is 1
+abbrev pub odd : Gf128 → Bool
+odd x = eqb (bit (value x) 0) 1

@@ -4,8 +4,7 @@
 ghost use mathlib.Core.Path.{_≡_};
 ghost use mathlib.Core.Bool.{cond};
 ghost use Prim.Native.Nat.{_/_, _^_};
-ghost use Rattle.field.specs.Gf.{ofWords, low, high, value, element, zero, one, same, isBit, added, product, shifted, power};
-ghost use Rattle.field.specs.Gf.Tests.{odd};
+ghost use Rattle.field.specs.Gf.{ofWords, low, high, value, element, zero, one, same, isBit, added, product, shifted, power, odd};
 
 // The low word has the coefficients of t^0 to t^63.
 pub struct Gf128 {

@@ -1,25 +1,22 @@
--- Filling and checking in one call: the filler's questions, then the check of what it wrote. Demand 3 makes its acceptance a statement about the
--- batch as it came. The laws are in Laws, given
--- batches in Examples.
+-- Filling and checking in one call: the filler's questions, then the check of what it wrote. Demand 3 makes its acceptance a statement
+-- about the batch as it came. The laws are in Laws/FillCheck, given batches in Laws/FillCheckExamples.
 -- Assumes nothing.
-pub mod Laws
-pub mod Examples
 use mathlib.Core.Path.{_≡_}
 use mathlib.Core.Logic.{_↔_}
 use mathlib.Core.Bool.{true}
 use mathlib.Core.List.{List}
 use Prim.Native.Nat.{ℕ, _+_, _<_}
 use lib.ListN.{length}
-use Rattle.layout.specs.Columns.{ONE-COL}
 use Rattle.layout.specs.declared.Refusal.{Refusal}
 use Rattle.layout.specs.declared.Asked.{Asked}
 use Rattle.layout.specs.declared.Asked.the-variants.{Yes, No}
+use Rattle.layout.specs.Columns.{ONE-COL}
+use Rattle.layout.specs.Batch.{scratchFits}
 use Rattle.circuit.specs.Circuit.{circuitWords}
 use Rattle.verdict.specs.declared.CheckAnswer.{CheckAnswer}
 use Rattle.verdict.specs.declared.CheckAnswer.the-variants.{Refused}
-use Rattle.verdict.specs.Row.{cycleOf}
+use Rattle.verdict.specs.Row.{cycleOf, bitsOf}
 use Rattle.verdict.specs.Check.{checked, houseChecked}
-use Rattle.step.specs.Words.{bitsOf}
 use Rattle.step.specs.Step.{Step}
 use Rattle.step.specs.Filling.{SameElsewhere, filled}
 use Rattle.step.specs.Fill.{fillAsked, called}
@@ -42,15 +39,16 @@ fillChecked cpi batch = let c = called cpi batch in record { answer = answerAfte
 abbrev pub EveryStep : ℕ → List ℕ → Type 0
 EveryStep cpi batch = (d : ℕ) → d < cpi → Step (bitsOf cpi batch d) (cycleOf cpi batch d (ONE-COL + 1))
 
--- What a call promises of the batch as it came, beside the definition. A no to questions 1, 2, 11 or 12 is the answer, and leaves the batch. After a yes
--- the batch is filled, and the answer that of the check on it, lent the house listing and any scratch of 3,072 words. It is accepted exactly when
--- the questions were answered with yes and every cycle meets the conditions, and fails exactly when they were and some cycle does not; and it is the
--- same whatever stood in the derived columns.
+-- What a call promises of the batch as it came, beside the definition. A no to questions 1, 2, 11 or 12 is the answer, and leaves the
+-- batch. After a yes the batch is filled, and the answer that of the check on it, lent the house listing and any scratch of 3,072 words. It
+-- is accepted exactly when the questions were answered with yes and every cycle meets the conditions, and fails exactly when they were and
+-- some cycle does not; and it is the same whatever stood in the derived columns.
 pub record Promised (cpi : ℕ) (before : List ℕ) (answer : CheckAnswer) (batch : List ℕ) : Type 0 where
   pub result : _≡_ {A = FillChecked} (record { answer = answer; batch = batch }) (fillChecked cpi before)
   pub refused : (r : Refusal) → fillAsked cpi before ≡ No r → (answer ≡ Refused r) × (batch ≡ before)
   pub fills : fillAsked cpi before ≡ Yes → batch ≡ filled cpi before
-  pub as-checked : fillAsked cpi before ≡ Yes → (scratch : List ℕ) → length scratch ≡ 3072 → answer ≡ checked cpi circuitWords batch scratch .answer
+  pub as-checked : fillAsked cpi before ≡ Yes → (scratch : List ℕ) → scratchFits (length scratch) ≡ true
+      → answer ≡ checked cpi circuitWords batch scratch .answer
   pub accepted : (accepts answer ≡ true) ↔ ((fillAsked cpi before ≡ Yes) × EveryStep cpi before)
   pub failed : (fails answer ≡ true) ↔ ((fillAsked cpi before ≡ Yes) × (EveryStep cpi before → ⊥))
   pub whatever : (other : List ℕ) → SameElsewhere cpi other before → fillChecked cpi other .answer ≡ answer

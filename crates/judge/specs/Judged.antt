@@ -5,14 +5,14 @@ use mathlib.Core.Bool.{Bool, true, _&&_}
 use mathlib.Core.List.{List, [], _∷_}
 use Prim.Native.Nat.{ℕ, _+_, _%_, _^_, _<_}
 use lib.Dec.{eqb}
+use Rattle.base.specs.Bits.{word}
+use Rattle.base.specs.Blocks.{Block}
 use Rattle.field.specs.declared.Gf128.{Gf128}
 use Rattle.layout.specs.Columns.{ONE-COL, RS1, RS2, LOAD-VAL, T1, T2, ALU, FLAGS, FETCH}
-use Rattle.verdict.specs.Row.{cycleOf}
-use Rattle.step.specs.Words.{bitsOf, word}
-use Rattle.step.specs.declared.derive.GivenWords.{GivenWords}
-use Rattle.step.specs.Fill.Blocks.{Block}
-use Rattle.step.specs.Fill.Words.{derivedWords, blocks}
-use Rattle.step.specs.Met.{wordsOf, flagsOf, conditions, allTrue}
+use Rattle.verdict.specs.Row.{cycleOf, bitsOf}
+use Rattle.filler.specs.declared.derive.GivenWords.{GivenWords}
+use Rattle.filler.specs.Words.{derivedWords, blocks}
+use Rattle.filler.specs.Met.{wordsOf, flagsOf, conditions, allTrue}
 
 -- the words of a cycle that its derived columns depend on
 abbrev pub givenOf : (ℕ → Bool) → GivenWords

@@ -1,18 +1,16 @@
--- Batches judged with no listing read. What a reader must believe is in these:
---     Judged          a cycle judged by its bits: `judgedCycle`; every cycle of a batch: `JudgedYes`
---     Words           the same of packed words: `judgedWords`, and of cycle after cycle `allJudged`
---     Short           the short way to an accepted batch
---     Judges, Named   what must stand in a batch: `OverBits`; `NamedBits`, over the columns that rows name
---     FillCheck       filling and checking in one call, and what it promises
--- and the theorems are `judged-exactly` of Exactly, `judges` of Judges, `judges-named` and `named-packed` of Named, `judges-filled` of Filled,
--- `judged-same`, `judged-agree` and `packed-batch` of Words.Same, and `short-accepts` and `short-exactly` of Short.Laws. Examples has what meets the definitions and what does not.
+-- A cycle judged with no listing read, the check's short way, and filling and checking in one call.
+-- What a reader must believe:
+--     Judged            a cycle judged with no listing read: the conditions, and every derived column as the filler has it
+--     Judges            columns that are bits, with 1 in the one column: `OverBits`
+--     Named             the columns that rows name, and bits in these alone: `NamedBits`
+--     Words             a cycle judged from packed words: word k has columns 64 k to 64 k + 63, and no word but the named ones is read
+--     Short             the short way to an accepted batch, from packed words
+--     FillCheck         filling and checking in one call: the filler's questions, then the check of what it wrote
+-- What follows from these, which the prover checks: Laws.
 pub mod Judged
-pub mod Words
-pub mod Written
-pub mod Exactly
 pub mod Judges
-pub mod Filled
 pub mod Named
-pub mod Examples
+pub mod Words
 pub mod Short
 pub mod FillCheck
+pub mod Laws

@@ -1,36 +1,40 @@
--- The short way to an accepted batch: the one column is 1, the columns that rows name are bits, and every cycle is judged with yes from its packed words. The
--- laws are in Laws: what it says yes to, the check accepts.
+-- The short way to an accepted batch: the one column is 1, the columns that rows name are bits, and every cycle is judged with yes from
+-- its packed words. The laws are in Laws: what it says yes to, the check accepts.
 -- Assumes nothing.
-pub mod Laws
 use mathlib.Core.Path.{_≡_}
-use mathlib.Core.Bool.{Bool, true, _&&_}
+use mathlib.Core.Bool.{Bool, true, false, _&&_}
 use mathlib.Core.List.{List}
 use Prim.Native.Nat.{ℕ, _+_, _*_}
-use lib.Dec.{eqb}
 use lib.ListN.{length, replicate}
 use Rattle.field.specs.Gf.{one, same}
-use Rattle.layout.specs.Batch.{allowed}
+use Rattle.layout.specs.declared.Asked.{Asked}
+use Rattle.layout.specs.declared.Asked.the-variants.{Yes, No}
+use Rattle.layout.specs.Batch.{allowed, batchWords, batchAsked, scratchFits}
 use Rattle.circuit.specs.Circuit.{circuitWords}
 use Rattle.verdict.specs.Row.{elementAt}
 use Rattle.packed.specs.Packed.{packedNamed, namedBits}
 use Rattle.judge.specs.Words.{allJudged}
 
--- the columns that rows name are bits, and every cycle is judged with yes from the words that are packed into a slice; the output is the public
--- element behind the one column
+-- the columns that rows name are bits, and every cycle is judged with yes from the words that are packed into a slice; the output is
+-- the public element behind the one column
 unfoldable pub shortBits : ℕ → List ℕ → List ℕ → Bool
 shortBits cpi batch out = namedBits cpi batch && allJudged (packedNamed cpi batch out) (elementAt batch (2048 * cpi + 1)) cpi 0
+
+abbrev pub isYes : Asked → Bool
+isYes Yes = true
+isYes (No r) = false
 
 -- of any batch: questions 1 and 2, the one column, and a slice of zeros to pack into
 unfoldable pub shortYes : ℕ → List ℕ → Bool
 shortYes cpi batch =
-    allowed cpi && (eqb (length batch) (8192 * cpi) && (same (elementAt batch (2048 * cpi)) one && shortBits cpi batch (replicate (32 * cpi) 0)))
+    isYes (batchAsked cpi (length batch)) && (same (elementAt batch (2048 * cpi)) one && shortBits cpi batch (replicate (32 * cpi) 0))
 
 pub record ShortIn (cpi : ℕ) (batch : List ℕ) : Type 0 where
   pub size : allowed cpi ≡ true
-  pub words : length batch ≡ 8192 * cpi
+  pub words : length batch ≡ batchWords cpi
 
 -- of a call that lends a listing, and scratch of so many words
 pub record ShortRow (cpi : ℕ) (listing batch : List ℕ) (room : ℕ) : Type 0 where
-  pub scratch : room ≡ 3072
+  pub scratch : scratchFits room ≡ true
   pub house : listing ≡ circuitWords
   pub yes : shortYes cpi batch ≡ true

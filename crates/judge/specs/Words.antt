@@ -1,19 +1,17 @@
--- A cycle judged from packed words: word k has columns 64 k to 64 k + 63, and no word but the named ones is read. The laws are in Walk, of the blocks and of cycle after cycle, and in
--- Same: it is the judgement of the bits.
+-- A cycle judged from packed words: word k has columns 64 k to 64 k + 63, and no word but the named ones is read. That it is
+-- the judgement of the bits, Laws/WordsSame says.
 -- Assumes nothing.
-pub mod Walk
-pub mod Same
 use mathlib.Core.Bool.{Bool, true, _&&_}
 use mathlib.Core.List.{List, [], _∷_}
 use Prim.Native.Nat.{ℕ, zero, suc, _+_, _*_, _/_, _%_, _^_}
 use lib.Dec.{eqb}
 use lib.ListN.{getD}
+use Rattle.base.specs.Blocks.{Block}
 use Rattle.field.specs.declared.Gf128.{Gf128}
-use Rattle.step.specs.declared.derive.GivenWords.{GivenWords}
-use Rattle.step.specs.declared.conditions.StepWords.{StepWords}
-use Rattle.step.specs.Fill.Blocks.{Block}
-use Rattle.step.specs.Fill.Words.{derivedWords, blocks}
-use Rattle.step.specs.Met.{flagsIn, conditions, allTrue}
+use Rattle.filler.specs.declared.derive.GivenWords.{GivenWords}
+use Rattle.filler.specs.declared.conditions.StepWords.{StepWords}
+use Rattle.filler.specs.Words.{derivedWords, blocks}
+use Rattle.filler.specs.Met.{flagsIn, conditions, allTrue}
 
 -- the words of a list from a place on
 abbrev pub wordsFrom : List ℕ → ℕ → ℕ → ℕ

@@ -1,15 +1,15 @@
 // A cycle judged from its packed words: word k has columns 64 k to 64 k + 63. The tests have no branch between them.
 use field::Gf128;
-use step::conditions::StepWords;
-use step::conditions::meets_all;
-use step::derive::DerivedWords;
-use step::derive::GivenWords;
-use step::derive::derive;
-use step::derive::taken_bit;
+use filler::conditions::StepWords;
+use filler::conditions::meets_all;
+use filler::derive::DerivedWords;
+use filler::derive::GivenWords;
+use filler::derive::derive;
+use filler::derive::taken_bit;
 ghost use mathlib.Core.Path.{_≡_};
 ghost use Prim.Native.Nat.{_+_, _*_, _<_, _≤_};
 ghost use lib.ListN.{length};
-ghost use Rattle.step.specs.Fill.Words.{lowBlocks, flagBlocks, highBlocks, blocks};
+ghost use Rattle.filler.specs.Words.{lowBlocks, flagBlocks, highBlocks, blocks};
 ghost use Rattle.judge.specs.Words.{wordsFrom, stepIn, givenIn, sameBits, allWrittenIn, judgedWords, allJudged};
 
 // All 64 bits.

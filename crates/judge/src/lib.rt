@@ -34,7 +34,9 @@ pub fn check_house(cpi: usize, batch: &[u64]) -> CheckAnswer
 
 // The check against a listing that is lent: questions 1, 2, 5, and 6 to 10.
 pub fn check_row(cpi: usize, listing: &[u32], batch: &[u64], scratch: &mut [u64]) -> CheckAnswer
-    ensures { λ r. ⌜ _≡_ {A = Checked} (record { answer = r; scratch = now (scratch .exit) }) (checked cpi (now (listing .entry)) (now (batch .entry)) (now (scratch .entry))) ⌝ }
+    ensures { λ r.
+        ⌜ _≡_ {A = Checked} (record { answer = r; scratch = now (scratch .exit) })
+        (checked cpi (now (listing .entry)) (now (batch .entry)) (now (scratch .entry))) ⌝ }
 {
     if short_row(cpi, listing, batch, scratch.len()) {
         verdict::clear(scratch);
@@ -43,12 +45,13 @@ pub fn check_row(cpi: usize, listing: &[u32], batch: &[u64], scratch: &mut [u64]
     verdict::check_row(cpi, listing, batch, scratch)
 }
 
-// Fills a batch and checks it against the house listing: the filler's questions, 1, 2, 11 and 12; a no leaves the batch as it came. What demand 3
-// says of acceptance is its promise: accepted exactly when every cycle meets the ten step conditions, whatever stood in the derived columns.
+// Fills a batch and checks it against the house listing: the filler's questions, 1, 2, 11 and 12; a no leaves the batch as it came. What
+// demand 3 says of acceptance is its promise: accepted exactly when every cycle meets the ten step conditions, whatever stood in the
+// derived columns.
 pub fn fill_and_check(cpi: usize, batch: &mut [u64]) -> CheckAnswer
     ensures { λ r. ⌜ Promised cpi (now (batch .entry)) r (now (batch .exit)) ⌝ }
 {
-    let asked = step::fill::fill(cpi, batch);
+    let asked = filler::fill::fill(cpi, batch);
     match asked {
         Asked::No(r) => CheckAnswer::Refused(r),
         Asked::Yes => check_house(cpi, batch),

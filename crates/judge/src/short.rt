@@ -1,7 +1,8 @@
-// The short way: an accepted batch of bits is seen to be one with no listing read. A no says nothing of the batch but that the listing has to be
-// walked.
+// The short way: an accepted batch of bits is seen to be one with no listing read. A no says nothing of the batch but that the listing has
+// to be walked.
 use crate::cycle::judge_cycles;
 use field::Gf128;
+use layout::Asked;
 use packed::Packing;
 ghost use mathlib.Core.Bool.{true};
 ghost use mathlib.Core.Logic.{_↔_};
@@ -23,7 +24,8 @@ fn element(batch: &[u64], at: usize) -> Gf128
 // Of a batch of one cycle the packing stands apart: the two run faster as one piece of code.
 fn pack(cpi: usize, batch: &[u64], out: &mut [u64]) -> Packing
     requires { ⌜ NamedIn cpi (now batch) (now out) ⌝ }
-    ensures { λ r. ⌜ _≡_ {A = PackCalled} (record { answer = r; out = now (out .exit) }) (packCalled cpi (now (batch .entry)) (now (out .entry))) ⌝ }
+    ensures { λ r.
+        ⌜ _≡_ {A = PackCalled} (record { answer = r; out = now (out .exit) }) (packCalled cpi (now (batch .entry)) (now (out .entry))) ⌝ }
 {
     if cpi == 1 {
         return packed::pack_row(batch, out);
@@ -64,7 +66,7 @@ fn short_large(cpi: usize, batch: &[u64]) -> bool
     requires { ⌜ ShortIn cpi (now batch) ⌝ }
     ensures { λ r. ⌜ r ≡ shortBits cpi (now (batch .entry)) (replicate (32 * cpi) 0) ⌝ }
 {
-    let mut out = [0u64; 8192];
+    let mut out = [0u64; 8192]; // 32 words for each of 256 cycles
     let words = 32 * cpi;
     pack_and_judge(cpi, batch, &mut out[..words])
 }
@@ -87,23 +89,22 @@ fn short_bits(cpi: usize, batch: &[u64]) -> bool
 pub fn short_yes(cpi: usize, batch: &[u64]) -> bool
     ensures { λ r. ⌜ r ≡ shortYes cpi (now (batch .entry)) ⌝ }
 {
-    if !layout::is_allowed(cpi) {
-        return false;
+    match layout::ask_batch(cpi, batch.len()) {
+        Asked::No(_) => false,
+        Asked::Yes => {
+            if !element(batch, 2048 * cpi).same(Gf128::one()) {
+                return false;
+            }
+            short_bits(cpi, batch)
+        }
     }
-    if batch.len() != 8192 * cpi {
-        return false;
-    }
-    if !element(batch, 2048 * cpi).same(Gf128::one()) {
-        return false;
-    }
-    short_bits(cpi, batch)
 }
 
 // Of a call that lends a listing and scratch.
 pub fn short_row(cpi: usize, listing: &[u32], batch: &[u64], room: usize) -> bool
     ensures { λ r. ⌜ (r ≡ true) ↔ ShortRow cpi (now (listing .entry)) (now (batch .entry)) room ⌝ }
 {
-    if room != 3072 {
+    if !layout::scratch_fits(room) {
         return false;
     }
     if !circuit::is_house(listing) {

@@ -1,10 +1,11 @@
 -- A batch: its sizes, its geometry, and where the columns of its cycles stand (document 01, "Columns").
 -- Assumes nothing.
-use mathlib.Core.Bool.{Bool, true, false, cond, _||_}
+use mathlib.Core.Bool.{Bool, false, cond, _||_}
 use mathlib.Core.List.{List, [], _∷_}
 use Prim.Native.Nat.{ℕ, _+_, _-_, _*_, _/_, _%_}
 use lib.Dec.{eqb, ltb}
-use Rattle.layout.specs.declared.InstanceGeometry.{InstanceGeometry}
+use Rattle.layout.specs.declared.Asked.{Asked}
+use Rattle.layout.specs.declared.Asked.the-variants.{Yes, No}
 use Rattle.layout.specs.declared.GeometryAnswer.{GeometryAnswer}
 use Rattle.layout.specs.declared.GeometryAnswer.the-variants.{Of, Refused as NoGeometry}
 use Rattle.layout.specs.declared.ColumnAnswer.{ColumnAnswer}
@@ -25,6 +26,24 @@ among n (x ∷ xs) = eqb n x || among n xs
 -- question 1
 unfoldable pub allowed : ℕ → Bool
 allowed cpi = among cpi sizes
+
+-- the words of a cycle: 4,096 elements, of two words each; and those of a batch
+abbrev pub CYCLE-WORDS : ℕ
+CYCLE-WORDS = 8192
+
+abbrev pub batchWords : ℕ → ℕ
+batchWords cpi = CYCLE-WORDS * cpi
+
+-- questions 1 and 2, of the number of a batch's words
+unfoldable pub batchAsked : ℕ → ℕ → Asked
+batchAsked cpi words = cond (allowed cpi) (cond (eqb words (batchWords cpi)) Yes (No (no 2 0))) (No (no 1 0))
+
+-- question 5, of the number of words of the check's scratch
+abbrev pub SCRATCH-WORDS : ℕ
+SCRATCH-WORDS = 3072
+
+unfoldable pub scratchFits : ℕ → Bool
+scratchFits words = eqb words SCRATCH-WORDS
 
 -- cycles of a batch where nobody chooses: the constant of src/lib.rt, which `default_cpi` ties to it
 abbrev pub DEFAULT-CPI : ℕ

@@ -1,9 +1,14 @@
-pub mod Ascii
-pub mod Questions
-pub mod Lists
+-- Where things stand: columns, segments, batch sizes, the mapping, and the questions.
+-- What a reader must believe:
+--     Columns           the columns of one cycle, as `WITNESS_LAYOUT` places them
+--     Segments          the segments of `SEGMENTS_CPU`
+--     Questions         document 01's questions
+--     Batch             a batch: its sizes, its geometry, and where the columns of its cycles stand (document 01, "Columns")
+--     Sheet             P12 of the bench sheet
+-- What follows from these, which the prover checks: Laws.
 pub mod Columns
 pub mod Segments
+pub mod Questions
 pub mod Batch
-pub mod Sizes
-pub mod Mapping
 pub mod Sheet
+pub mod Laws

@@ -1,9 +1,7 @@
 -- Document 01's questions. They are asked in order, as `cond test next refusal`: the first no ends the asking.
 -- Assumes nothing.
-use mathlib.Core.Path.{_≡_, refl}
-use mathlib.Core.Bool.{Bool, true, false, cond, _&&_, false≢true}
+use mathlib.Core.List.{List}
 use Prim.Native.Nat.{ℕ}
-use native.Mathlib.Omega.{arith}
 use Rattle.layout.specs.declared.Refusal.{Refusal}
 use Rattle.layout.specs.declared.Asked.{Asked}
 use Rattle.layout.specs.declared.Asked.the-variants.{Yes, No}
@@ -12,19 +10,16 @@ use Rattle.layout.specs.declared.Asked.the-variants.{Yes, No}
 abbrev pub no : ℕ → ℕ → Refusal
 no k p = record { number = k; place = p }
 
--- one question peeled off a chain: it was answered with yes, or with no
-pub passed : {A : Type 0} (test : Bool) (next refusal : A) → test ≡ true → next ≡ cond test next refusal
-passed test next refusal e = rw e
+-- an answer of any kind after questions: it is given where all were answered with yes
+abbrev pub ifYes : {A : Type 0} → (Refusal → A) → Asked → A → A
+ifYes refuse Yes answer = answer
+ifYes refuse (No r) answer = refuse r
 
-pub refused : {A : Type 0} (test : Bool) (next refusal : A) → test ≡ false → refusal ≡ cond test next refusal
-refused test next refusal e = rw e
+-- the answer and the batch afterwards: a yes leaves what was made, a no what was there
+pub record Called : Type 0 where
+  pub answer : Asked
+  pub batch : List ℕ
 
--- a chain that was answered with yes
-pub answered : (test : Bool) (next : Asked) (r : Refusal) → cond test next (No r) ≡ Yes → (test ≡ true) × (next ≡ Yes)
-answered true next r e = (refl, e)
-answered false next r e = let z : _≡_ {A = ℕ} 0 1 = cc in absurd (omega arith)
-
--- two tests at once
-pub both : (a b : Bool) → (a && b) ≡ true → (a ≡ true) × (b ≡ true)
-both true b e = (refl, e)
-both false b e = absurd (false≢true e)
+abbrev pub after : Asked → List ℕ → List ℕ → Called
+after Yes made there = record { answer = Yes; batch = made }
+after (No r) made there = record { answer = No r; batch = there }

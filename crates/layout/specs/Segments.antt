@@ -1,23 +1,22 @@
 -- The segments of `SEGMENTS_CPU`. A start is the column that `WITNESS_LAYOUT` gives: sums of the lengths would put fetch at 808.
 -- Assumes nothing.
-use mathlib.Core.Path.{_≡_, refl}
-use mathlib.Core.Bool.{Bool, true, false, _&&_}
+use mathlib.Core.Bool.{Bool, true, _&&_}
 use mathlib.Core.List.{List, [], _∷_, _++_, map}
 use Prim.Native.Nat.{ℕ, _+_, _-_}
 use lib.Dec.{leb}
 use lib.ListN.{length, replicate}
-use Rattle.layout.specs.Ascii.{ascii}
+use Rattle.base.specs.Text.{ascii}
+use Rattle.base.specs.Lists.{joined}
 use Rattle.layout.specs.Columns.{W-COLS, RS1, RS2, RD, LOAD-VAL, SHIFT-OUT, T1, T2, CARRY-OFF, ALU, SHIFT-SRC, STORE-OLD, STORE-SRC, FLAGS, OFF, RAM-ADDR, PC, FETCH, EQA, ZERO}
-use Rattle.layout.specs.Lists.{joined}
 
 -- a name, in bytes of ASCII; the column of its first bit; how many columns it has
 pub record Segment : Type 0 where
   pub name : List ℕ
   pub start : ℕ
-  pub length : ℕ
+  pub columns : ℕ
 
 abbrev pub segment : List ℕ → ℕ → ℕ → Segment
-segment n s l = record { name = n; start = s; length = l }
+segment n s k = record { name = n; start = s; columns = k }
 
 -- in the order of `SEGMENTS_CPU`
 unfoldable pub segments : List Segment
@@ -55,14 +54,10 @@ abbrev pub segmentStarts : List Segment → List ℕ
 segmentStarts ss = map (λ s. s .start) ss
 
 abbrev pub segmentLengths : List Segment → List ℕ
-segmentLengths ss = map (λ s. s .length) ss
+segmentLengths ss = map (λ s. s .columns) ss
 
 -- each segment ends where the next begins or before, and the last within the cycle's columns
 abbrev pub apart : List Segment → Bool
 apart [] = true
-apart (s ∷ []) = leb (s .start + s .length) W-COLS
-apart (s ∷ t ∷ ss) = leb (s .start + s .length) (t .start) && apart (t ∷ ss)
-
-pub segments-apart : apart segments ≡ true
-unfolding segments
-segments-apart = refl
+apart (s ∷ []) = leb (s .start + s .columns) W-COLS
+apart (s ∷ t ∷ ss) = leb (s .start + s .columns) (t .start) && apart (t ∷ ss)

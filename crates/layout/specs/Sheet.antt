@@ -1,9 +1,9 @@
 -- P12 of the bench sheet, by computation.
 -- Assumes nothing.
-use mathlib.Core.Path.{_≡_, refl}
+use mathlib.Core.Path.{_≡_}
 use Rattle.layout.specs.declared.GeometryAnswer.the-variants.{Of, Refused}
 use Rattle.layout.specs.declared.ColumnAnswer.the-variants.{At}
-use Rattle.layout.specs.Batch.{allowed, geometryOf, columnAt, mapped}
+use Rattle.layout.specs.Batch.{geometryOf, mapped}
 use Rattle.layout.specs.Questions.{no}
 
 pub record P12 : Type 0 where
@@ -12,7 +12,3 @@ pub record P12 : Type 0 where
   pub none : geometryOf 0 ≡ Refused (no 1 0)
   pub three : geometryOf 3 ≡ Refused (no 1 0)
   pub large : geometryOf 512 ≡ Refused (no 1 0)
-
-pub p12 : P12
-unfolding allowed geometryOf columnAt mapped
-p12 = record { four = refl; column = refl; none = refl; three = refl; large = refl }

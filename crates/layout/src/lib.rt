@@ -8,9 +8,14 @@ use crate::columns::W_COLS;
 ghost use mathlib.Core.Path.{_≡_};
 ghost use mathlib.Core.Bool.{true};
 ghost use Prim.Native.Nat.{_<_, _≤_};
-ghost use Rattle.layout.specs.Batch.{DEFAULT-CPI, allowed, geometryOf, columnAt, mapped, unmapped};
+ghost use Rattle.layout.specs.Questions.{no};
+ghost use Rattle.layout.specs.Batch.{DEFAULT-CPI, allowed, batchAsked, scratchFits, geometryOf, columnAt, mapped, unmapped};
 
 pub const DEFAULT_CPI: usize = 1; // cycles of a batch where nobody chooses
+
+pub const CYCLE_WORDS: usize = 8192; // words of a cycle: 4,096 elements, of two words each
+
+pub const SCRATCH_WORDS: usize = 3072; // words of the check's scratch
 
 // A question of document 01 that was answered with no: its number, and the place (a word's index for 7 to 10, the smallest batch
 // column for 11, else 0).
@@ -51,6 +56,13 @@ pub enum CycleColumnAnswer {
     Refused(Refusal),
 }
 
+// A no to the question of a number, at no place of its own.
+pub fn refused(number: u8) -> Refusal
+    ensures { λ r. ⌜ r ≡ no number 0 ⌝ }
+{
+    Refusal { number, place: 0 }
+}
+
 // Question 1: a batch has a power of two of cycles, 1 to 256.
 pub fn is_allowed(cpi: usize) -> bool
     ensures { λ r. ⌜ r ≡ allowed cpi ⌝ }
@@ -59,6 +71,26 @@ pub fn is_allowed(cpi: usize) -> bool
         return false;
     }
     256 % cpi == 0
+}
+
+// Questions 1 and 2, of the number of a batch's words.
+pub fn ask_batch(cpi: usize, words: usize) -> Asked
+    ensures { λ r. ⌜ r ≡ batchAsked cpi words ⌝ }
+{
+    if !is_allowed(cpi) {
+        return Asked::No(refused(1));
+    }
+    if words != CYCLE_WORDS * cpi {
+        return Asked::No(refused(2));
+    }
+    Asked::Yes
+}
+
+// Question 5, of the number of words of the check's scratch.
+pub fn scratch_fits(words: usize) -> bool
+    ensures { λ r. ⌜ r ≡ scratchFits words ⌝ }
+{
+    words == SCRATCH_WORDS
 }
 
 pub fn default_cpi() -> usize
@@ -71,10 +103,7 @@ pub fn geometry(cpi: usize) -> GeometryAnswer
     ensures { λ r. ⌜ r ≡ geometryOf cpi ⌝ }
 {
     if !is_allowed(cpi) {
-        return GeometryAnswer::Refused(Refusal {
-            number: 1,
-            place: 0,
-        });
+        return GeometryAnswer::Refused(refused(1));
     }
     let w_cols = W_COLS * cpi;
     GeometryAnswer::Of(InstanceGeometry {
@@ -104,22 +133,13 @@ fn map_below(limit: usize, cpi: usize, column: usize, cycle: usize) -> ColumnAns
     ensures { λ r. ⌜ r ≡ mapped limit cpi column cycle ⌝ }
 {
     if !is_allowed(cpi) {
-        return ColumnAnswer::Refused(Refusal {
-            number: 1,
-            place: 0,
-        });
+        return ColumnAnswer::Refused(refused(1));
     }
     if limit <= column {
-        return ColumnAnswer::Refused(Refusal {
-            number: 14,
-            place: 0,
-        });
+        return ColumnAnswer::Refused(refused(14));
     }
     if cpi <= cycle {
-        return ColumnAnswer::Refused(Refusal {
-            number: 15,
-            place: 0,
-        });
+        return ColumnAnswer::Refused(refused(15));
     }
     ColumnAnswer::At(column_at(cpi, column, cycle))
 }
@@ -143,16 +163,10 @@ pub fn unmap_col(cpi: usize, batch_column: usize) -> CycleColumnAnswer
     ensures { λ r. ⌜ r ≡ unmapped cpi «batch_column» ⌝ }
 {
     if !is_allowed(cpi) {
-        return CycleColumnAnswer::Refused(Refusal {
-            number: 1,
-            place: 0,
-        });
+        return CycleColumnAnswer::Refused(refused(1));
     }
     if W_COLS * cpi <= batch_column {
-        return CycleColumnAnswer::Refused(Refusal {
-            number: 14,
-            place: 0,
-        });
+        return CycleColumnAnswer::Refused(refused(14));
     }
     CycleColumnAnswer::At {
         column: batch_column / cpi,

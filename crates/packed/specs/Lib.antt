@@ -1,19 +1,18 @@
--- Packing: a cycle's columns as words. What a reader must believe is in Packed.
---     Packed     the words, and the call
---     Stacked    numbers one above the other, and what the sums in the code make of them
---     Seen       what the bitwise or of elements says of them
---     Columns    four columns of every cycle, and the 64 of a word
---     Ranges     word after word
---     One        the same for a batch of one cycle
---     Named      the named words, and the call
---     Words      of bits, a packed word is the cycle's word
---     Example    a packed batch of two cycles
+-- Packed words. All but Packed serve contracts of private functions.
+-- What a reader must believe:
+--     Packed            packed words: 64 columns of a cycle a word, the lowest column in the lowest bit
+--     Stacked           numbers one above the other: in parts, as the code's wrapping sums put them together, and of bits
+--     Seen              the bitwise or of low words, and that of high ones, tell whether elements are bits
+--     One               a batch of one cycle, whose columns stand one after the other: its words in quarters of quarters
+--     Columns           a batch of several cycles: four columns of every cycle put below what a slice has, in turns
+--     Ranges            word after word of every cycle, 32 words a cycle
+--     Named             the named words of every cycle: both stretches of them, and the call
+-- What follows from these, which the prover checks: Laws.
 pub mod Packed
 pub mod Stacked
 pub mod Seen
+pub mod One
 pub mod Columns
 pub mod Ranges
-pub mod One
 pub mod Named
-pub mod Words
-pub mod Example
+pub mod Laws

@@ -1,178 +1,23 @@
 -- The named words of every cycle: both stretches of them, and the call.
 -- Assumes nothing.
-use mathlib.Core.Path.{_≡_, refl, sym, ap, ap₂, subst, _∙_}
-use mathlib.Core.Logic.{_↔_, Iff·trans, ⊎-elim}
-use mathlib.Core.Bool.{Bool, true, false, cond, not, _&&_}
+use mathlib.Core.Path.{_≡_}
+use mathlib.Core.Logic.{_↔_}
+use mathlib.Core.Bool.{true, cond}
 use mathlib.Core.List.{List}
-use Prim.Native.Nat.{ℕ, zero, suc, _+_, _*_, _-_, _/_, _%_, _≤_, _<_}
-use native.Mathlib.Decide.{decLt, ℕ-discrete}
-use native.Mathlib.Nat.{eq-or-lt-of-le, mod-lt, div-add-mod', div-lt-iff-lt-mul, le-div-iff-mul-le, mul-le-mul-right, zero-add, zero-mul, add-mul, mul-div-cancel}
-use native.Mathlib.Omega.{arith}
-use borrow.Author.Tests.{lt-ltb, le-ltb, eq-eqb, ne-eqb}
-use lib.Arith.{digits-lt}
-use lib.Bits.{bitOr}
-use lib.Dec.{eqb, ltb}
+use Prim.Native.Nat.{ℕ, _+_, _*_, _<_}
 use lib.ListN.{length, getD}
-use lib.Seq.{ext-getD}
-use Rattle.field.specs.Gf.{isBit}
-use Rattle.layout.specs.Batch.{allowed}
-use Rattle.layout.specs.Sizes.{allowed-range}
-use Rattle.layout.specs.Questions.{passed, both}
-use Rattle.circuit.specs.Rows.{from}
-use Rattle.circuit.specs.Families.{length-from, getD-from}
-use Rattle.verdict.specs.Row.{elementAt}
-use Rattle.packed.specs.declared.Packing.{Packing}
-use Rattle.packed.specs.declared.Packing.the-variants.{Bits, NotBits}
-use Rattle.circuit.specs.Compared.{or-none}
-use Rattle.packed.specs.Packed.{PackCalled, packCalled, packedWord, namedWord, packedAt, packedNamed, bitsFrom, namedBits}
-use Rattle.packed.specs.Seen.{BitAt, bit-words-are}
-use Rattle.packed.specs.Columns.{BitsIn}
-use Rattle.packed.specs.Ranges.{RangeIn, Ranged}
-
--- ---- the test of a stretch of batch columns, by column and cycle
-
-pub bits-each : (batch : List ℕ) (n x : ℕ) → (bitsFrom batch x n ≡ true) ↔ ((y : ℕ) → x ≤ y → y < x + n → BitAt batch (2 * y))
-unfolding bitsFrom
-bits-each batch zero x = (λ _ y l m. absurd (omega arith), λ _. refl)
-bits-each batch (suc n) x = (
-  λ e y l m.
-      let p = both (isBit (elementAt batch x)) (bitsFrom batch (suc x) n) e in
-      ⊎-elim (λ q. subst (λ (k : ℕ). BitAt batch (2 * k)) q (bit-words-are batch x .0 (p .0))) (λ k. bits-each batch n (suc x) .0 (p .1) y (omega arith) (omega arith))
-      (eq-or-lt-of-le l),
-  λ h.
-      ap₂ _&&_ (bit-words-are batch x .1 (h x (omega arith) (omega arith))) (bits-each batch n (suc x) .1 (λ y l m. h y (omega arith) (omega arith))),
-)
-
-pub bits-in : (cpi : ℕ) (batch : List ℕ) (o n : ℕ) → 0 < cpi → (bitsFrom batch (o * cpi) (n * cpi) ≡ true) ↔ BitsIn cpi batch o (o + n)
-bits-in cpi batch o n some = (
-  λ e c d l m k.
-      bits-each batch (n * cpi) (o * cpi) .0 e (c * cpi + d) (omega (arith, mul-le-mul-right {m = o} {n = c} cpi l))
-      (omega (arith, digits-lt {q = c} {m = o + n} {r = d} {c = cpi} m k, sum)),
-  λ h.
-      bits-each batch (n * cpi) (o * cpi) .1
-      (λ y l m. subst (λ (k : ℕ). BitAt batch (2 * k)) (div-add-mod' y cpi)
-      (h (y / cpi) (y % cpi) (le-div-iff-mul-le some .1 l) (div-lt-iff-lt-mul some .1 (omega (arith, m, sum))) (mod-lt y some))),
-)
-  where
-    sum : (o + n) * cpi ≡ o * cpi + n * cpi
-    sum = add-mul o n cpi
+use Rattle.layout.specs.Batch.{allowed, batchWords}
+use Rattle.packed.specs.Packed.{packedWord, namedWord, namedBits}
 
 -- ---- both stretches
 
 pub record NamedIn (cpi : ℕ) (batch out : List ℕ) : Type 0 where
   pub size : allowed cpi ≡ true
-  pub words : length batch ≡ 8192 * cpi
+  pub words : length batch ≡ batchWords cpi
   pub room : length out ≡ 32 * cpi
 
 pub record Named (cpi : ℕ) (batch before after : List ℕ) (bad : ℕ) : Type 0 where
   pub lengths : length after ≡ length before
-  pub words : (d k : ℕ) → d < cpi → k < 32 → getD after (32 * d + k) 0 ≡ cond (namedWord k) (packedWord cpi batch d k) (getD before (32 * d + k) 0)
+  pub words : (d k : ℕ) → d < cpi → k < 32
+      → getD after (32 * d + k) 0 ≡ cond (namedWord k) (packedWord cpi batch d k) (getD before (32 * d + k) 0)
   pub bits : (bad ≡ 0) ↔ (namedBits cpi batch ≡ true)
-
-module _ (cpi : ℕ) (batch out : List ℕ) (h : NamedIn cpi batch out) where
-  pub some-cycles : 0 < cpi
-  some-cycles = allowed-range cpi (h .size) .0
-
-  -- the length holds two words for each of 4,096 columns of each cycle
-  pub two-words : length batch / (4096 * cpi) ≡ 2
-  two-words =
-      ap (λ (n : ℕ). n / (4096 * cpi)) (h .words ∙ omega arith)
-      ∙ mul-div-cancel 2 {n = 4096 * cpi} (omega (arith, some-cycles))
-
-  pub range-in : (first last : ℕ) (now : List ℕ) → length now ≡ length out → first ≤ last → last ≤ 32 → RangeIn cpi batch first last now
-  range-in first last now e l m =
-      record { few = allowed-range cpi (h .size) .1; words = h .words; order = l; inside = m; room = e ∙ h .room }
-
-pub both-ranges : (cpi : ℕ) (batch before now after : List ℕ) (bad r : ℕ) → 0 < cpi → Ranged cpi batch 0 15 before now bad → Ranged cpi batch 16 18 now after r
-    → Named cpi batch before after (bitOr bad r)
-unfolding namedBits
-both-ranges cpi batch before now after bad r some h g =
-    record {
-      lengths = g .lengths ∙ h .lengths;
-      words = λ d k l m. words d k l m (decLt k 15) (decLt k 16) (decLt k 18);
-      bits = (
-        λ z. let p = or-none bad r .0 z in ap₂ _&&_ (low .1 (h .bits .0 (p .0))) (high .1 (g .bits .0 (p .1))),
-        λ e. let p = both (bitsFrom batch 0 (960 * cpi)) (bitsFrom batch (1024 * cpi) (128 * cpi)) e in or-none bad r .1 (h .bits .1 (low .0 (p .0)), g .bits .1 (high .0 (p .1))),
-      );
-    }
-  where
-    low : (bitsFrom batch 0 (960 * cpi) ≡ true) ↔ BitsIn cpi batch 0 960
-    low = subst (λ (x : ℕ). (bitsFrom batch x (960 * cpi) ≡ true) ↔ BitsIn cpi batch 0 960) (zero-mul cpi) (bits-in cpi batch 0 960 some)
-
-    high : (bitsFrom batch (1024 * cpi) (128 * cpi) ≡ true) ↔ BitsIn cpi batch 1024 1152
-    high = bits-in cpi batch 1024 128 some
-
-    named : (k : ℕ) → k < 18 → (k ≡ 15 → ⊥) → namedWord k ≡ true
-    named k l f = ap₂ (λ (x y : Bool). x && not y) (lt-ltb k 18 l) (ne-eqb k 15 f)
-
-    words : (d k : ℕ) → d < cpi → k < 32 → Dec (k < 15) → Dec (k < 16) → Dec (k < 18)
-        → getD after (32 * d + k) 0 ≡ cond (namedWord k) (packedWord cpi batch d k) (getD before (32 * d + k) 0)
-    words d k l m (yes a) b c =
-        g .left d k m (omega arith) ∙ h .here d k l (omega arith) a
-        ∙ ap (λ (t : Bool). cond t (packedWord cpi batch d k) (getD before (32 * d + k) 0)) (sym (named k (omega arith) (λ q. omega arith)))
-    words d k l m (no a) (yes b) c =
-        g .left d k m b ∙ h .right d k m (omega arith)
-        ∙ ap (λ (t : Bool). cond t (packedWord cpi batch d k) (getD before (32 * d + k) 0))
-        (sym (ap₂ (λ (x y : Bool). x && not y) (lt-ltb k 18 (omega arith)) (eq-eqb k 15 (omega arith))))
-    words d k l m (no a) (no b) (yes c) =
-        g .here d k l (omega arith) c
-        ∙ ap (λ (t : Bool). cond t (packedWord cpi batch d k) (getD before (32 * d + k) 0)) (sym (named k c (λ q. omega arith)))
-    words d k l m (no a) (no b) (no c) =
-        g .right d k m (omega arith) ∙ h .right d k m (omega arith)
-        ∙ ap (λ (t : Bool). cond t (packedWord cpi batch d k) (getD before (32 * d + k) 0)) (sym (ap (λ (x : Bool). x && not (eqb k 15)) (le-ltb k 18 (omega arith))))
-
--- the slice as a whole
-pub named-out : (cpi : ℕ) (batch before after : List ℕ) (bad : ℕ) → length before ≡ 32 * cpi → Named cpi batch before after bad → after ≡ packedNamed cpi batch before
-unfolding packedNamed
-named-out cpi batch before after bad s n =
-    ext-getD 0 after (from 0 (length before) (packedAt cpi batch before)) (n .lengths ∙ sym (length-from (packedAt cpi batch before) (length before) 0))
-    (λ i l.
-    let e : 32 * (i / 32) + i % 32 ≡ i = omega arith in
-    ap (λ (x : ℕ). getD after x 0) (sym e)
-    ∙ n .words (i / 32) (i % 32) (omega (arith, n .lengths)) (omega arith)
-    ∙ ap (λ (x : ℕ). cond (namedWord (i % 32)) (packedWord cpi batch (i / 32) (i % 32)) (getD before x 0)) e
-    ∙ ap (packedAt cpi batch before) (sym (zero-add i))
-    ∙ sym (getD-from (packedAt cpi batch before) 0 (length before) 0 i (omega (arith, n .lengths))))
-
--- a batch of one cycle
-pub of-one : {cpi : ℕ} {batch out : List ℕ} → cpi ≡ 1 → NamedIn cpi batch out → NamedIn 1 batch out
-of-one {batch = b} {out = o} e h = subst (λ (n : ℕ). NamedIn n b o) e h
-
-pub one-named : {cpi bad : ℕ} {batch before after : List ℕ} → cpi ≡ 1 → Named 1 batch before after bad → Named cpi batch before after bad
-one-named {bad = r} {batch = b} {before = p} {after = q} e h = subst (λ (n : ℕ). Named n b p q r) (sym e) h
-
--- a test that is not true is false
-pub not-so : (t : Bool) → (t ≡ true → ⊥) → t ≡ false
-not-so true g = absurd (g refl)
-not-so false g = refl
-
--- ---- the call
-
-module _ (cpi : ℕ) (batch out : List ℕ) (size : allowed cpi ≡ true) (words : length batch ≡ 8192 * cpi) (room : length out ≡ 32 * cpi) where
-  pub named-in : NamedIn cpi batch out
-  named-in = record { size = size; words = words; room = room }
-
-  answered : (p : Packing) → cond (namedBits cpi batch) Bits NotBits ≡ p → (after : List ℕ) (bad : ℕ) → Named cpi batch out after bad
-      → _≡_ {A = PackCalled} (record { answer = p; out = after }) (packCalled cpi batch out)
-  unfolding packCalled
-  answered p e after bad n =
-      ap₂ (λ (a : Packing) (o : List ℕ). record { answer = a; out = o }) (sym e) (named-out cpi batch out after bad room n)
-      ∙ passed _ _ _ (eq-eqb (length out) (32 * cpi) room) ∙ passed _ _ _ (eq-eqb (length batch) (8192 * cpi) words) ∙ passed _ _ _ size
-
-  pub called-bits : {after : List ℕ} {bad : ℕ} → Named cpi batch out after bad → bad ≡ 0
-      → _≡_ {A = PackCalled} (record { answer = Bits; out = after }) (packCalled cpi batch out)
-  called-bits {after} {bad} n z = answered Bits (ap (λ (t : Bool). cond t Bits NotBits) (n .bits .0 z)) after bad n
-
-  pub called-not-bits : {after : List ℕ} {bad : ℕ} → Named cpi batch out after bad → (bad ≡ 0 → ⊥)
-      → _≡_ {A = PackCalled} (record { answer = NotBits; out = after }) (packCalled cpi batch out)
-  called-not-bits {after} {bad} n f =
-      answered NotBits (ap (λ (t : Bool). cond t Bits NotBits) (not-so (namedBits cpi batch) (λ e. f (n .bits .1 e)))) after bad n
-
--- what the call says, read back where the questions are passed
-pub called-is : (cpi : ℕ) (batch out : List ℕ) → NamedIn cpi batch out → {a : Packing} {after : List ℕ}
-    → _≡_ {A = PackCalled} (record { answer = a; out = after }) (packCalled cpi batch out)
-    → (a ≡ cond (namedBits cpi batch) Bits NotBits) × (after ≡ packedNamed cpi batch out)
-unfolding packCalled
-called-is cpi batch out h e =
-    let f = e ∙ sym (passed _ _ _ (eq-eqb (length out) (32 * cpi) (h .room)) ∙ passed _ _ _ (eq-eqb (length batch) (8192 * cpi) (h .words)) ∙ passed _ _ _ (h .size)) in
-    (ap (λ (q : PackCalled). q .answer) f, ap (λ (q : PackCalled). q .out) f)

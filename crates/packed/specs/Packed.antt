@@ -1,15 +1,16 @@
--- Packed words: 64 columns of a cycle a word, the lowest column in the lowest bit. In cycle order, column c of cycle d is bit c % 64 of word
--- 32 · d + c / 64.
+-- Packed words: 64 columns of a cycle a word, the lowest column in the lowest bit. In cycle order, column c of cycle d is bit c % 64 of
+-- word 32 · d + c / 64.
 -- Assumes nothing.
 use mathlib.Core.Bool.{Bool, true, cond, not, _&&_}
 use mathlib.Core.List.{List}
 use Prim.Native.Nat.{ℕ, zero, suc, _+_, _*_, _/_, _%_, _^_}
 use lib.Dec.{eqb, ltb}
 use lib.ListN.{length, getD}
+use Rattle.base.specs.Lists.{from}
 use Rattle.field.specs.Gf.{isBit}
-use Rattle.layout.specs.Batch.{allowed}
-use Rattle.layout.specs.Questions.{no}
-use Rattle.circuit.specs.Rows.{from}
+use Rattle.layout.specs.declared.Refusal.{Refusal}
+use Rattle.layout.specs.Batch.{batchAsked}
+use Rattle.layout.specs.Questions.{no, ifYes}
 use Rattle.verdict.specs.Row.{elementAt}
 use Rattle.packed.specs.declared.Packing.{Packing}
 use Rattle.packed.specs.declared.Packing.the-variants.{Bits, NotBits, Refused}
@@ -52,14 +53,14 @@ pub record PackCalled : Type 0 where
   pub answer : Packing
   pub out : List ℕ
 
-abbrev pub unpacked : ℕ → List ℕ → PackCalled
-unpacked k out = record { answer = Refused (no k 0); out = out }
+abbrev pub answerOf : Bool → Packing
+answerOf bits = cond bits Bits NotBits
+
+abbrev pub unpacked : List ℕ → Refusal → PackCalled
+unpacked out r = record { answer = Refused r; out = out }
 
 unfoldable pub packCalled : ℕ → List ℕ → List ℕ → PackCalled
 packCalled cpi batch out =
-    cond (allowed cpi)
-    (cond (eqb (length batch) (8192 * cpi))
-    (cond (eqb (length out) (32 * cpi)) (record { answer = cond (namedBits cpi batch) Bits NotBits; out = packedNamed cpi batch out })
-    (unpacked 18 out))
-    (unpacked 2 out))
-    (unpacked 1 out)
+    ifYes (unpacked out) (batchAsked cpi (length batch))
+    (cond (eqb (length out) (32 * cpi)) (record { answer = answerOf (namedBits cpi batch); out = packedNamed cpi batch out })
+    (unpacked out (no 18 0)))

@@ -3,11 +3,13 @@ mod many;
 mod one;
 pub mod sums;
 
+use layout::Asked;
 use layout::Refusal;
 ghost use mathlib.Core.Path.{_≡_};
 ghost use Prim.Native.Nat.{_<_};
+ghost use lib.Dec.{eqb};
 ghost use lib.ListN.{length};
-ghost use Rattle.packed.specs.Packed.{PackCalled, packCalled};
+ghost use Rattle.packed.specs.Packed.{answerOf, PackCalled, packCalled};
 ghost use Rattle.packed.specs.Named.{Named, NamedIn};
 
 // Whether the columns that were packed are bits.
@@ -68,23 +70,10 @@ fn pack(cpi: usize, batch: &[u64], out: &mut [u64]) -> u64
     pack_large(cpi, batch, out)
 }
 
-// The same of a batch of one cycle, whose shape stands apart: who has but one cycle need not carry the others.
-pub fn pack_row(batch: &[u64], out: &mut [u64]) -> Packing
-    ensures { λ r. ⌜ _≡_ {A = PackCalled} (record { answer = r; out = now (out .exit) }) (packCalled 1 (now (batch .entry)) (now (out .entry))) ⌝ }
+fn answer(bad: u64) -> Packing
+    ensures { λ r. ⌜ r ≡ answerOf (eqb bad 0) ⌝ }
 {
-    if batch.len() != 8192 {
-        return Packing::Refused(Refusal {
-            number: 2,
-            place: 0,
-        });
-    }
-    if out.len() != 32 {
-        return Packing::Refused(Refusal {
-            number: 18,
-            place: 0,
-        });
-    }
-    if pack_one(batch, out) == 0 {
+    if bad == 0 {
         Packing::Bits
     } else {
         Packing::NotBits
@@ -93,29 +82,32 @@ pub fn pack_row(batch: &[u64], out: &mut [u64]) -> Packing
 
 // The words of every cycle that hold columns which rows name, in cycle order: questions 1, 2 and 18.
 pub fn pack_named(cpi: usize, batch: &[u64], out: &mut [u64]) -> Packing
-    ensures { λ r. ⌜ _≡_ {A = PackCalled} (record { answer = r; out = now (out .exit) }) (packCalled cpi (now (batch .entry)) (now (out .entry))) ⌝ }
+    ensures { λ r.
+        ⌜ _≡_ {A = PackCalled} (record { answer = r; out = now (out .exit) }) (packCalled cpi (now (batch .entry)) (now (out .entry))) ⌝ }
 {
-    if !layout::is_allowed(cpi) {
-        return Packing::Refused(Refusal {
-            number: 1,
-            place: 0,
-        });
+    match layout::ask_batch(cpi, batch.len()) {
+        Asked::No(r) => Packing::Refused(r),
+        Asked::Yes => {
+            if out.len() != 32 * cpi {
+                return Packing::Refused(layout::refused(18));
+            }
+            answer(pack(cpi, batch, out))
+        }
     }
-    if batch.len() != 8192 * cpi {
-        return Packing::Refused(Refusal {
-            number: 2,
-            place: 0,
-        });
-    }
-    if out.len() != 32 * cpi {
-        return Packing::Refused(Refusal {
-            number: 18,
-            place: 0,
-        });
-    }
-    if pack(cpi, batch, out) == 0 {
-        Packing::Bits
-    } else {
-        Packing::NotBits
+}
+
+// The same of a batch of one cycle, whose shape stands apart: who has but one cycle need not carry the others.
+pub fn pack_row(batch: &[u64], out: &mut [u64]) -> Packing
+    ensures { λ r.
+        ⌜ _≡_ {A = PackCalled} (record { answer = r; out = now (out .exit) }) (packCalled 1 (now (batch .entry)) (now (out .entry))) ⌝ }
+{
+    match layout::ask_batch(1, batch.len()) {
+        Asked::No(r) => Packing::Refused(r),
+        Asked::Yes => {
+            if out.len() != 32 {
+                return Packing::Refused(layout::refused(18));
+            }
+            answer(pack_one(batch, out))
+        }
     }
 }

@@ -4,7 +4,7 @@ use crate::words::fill_with;
 use crate::words::has_part;
 use crate::words::part;
 use crate::words::same_words;
-use compare::filler::compare_fill;
+use compare::fills::compare_fill;
 use compare::makers::compare_assemble;
 use compare::makers::compare_witness_row;
 

@@ -5,7 +5,7 @@ use crate::words::same_words;
 use circuit::Relation;
 use compare::check::compare_apply;
 use compare::check::compare_bit_test;
-use compare::filler::compare_first_unmet;
+use compare::fills::compare_first_unmet;
 use compare::reader::compare_reader;
 use verdict::CheckAnswer;
 use verdict::Verdict;

@@ -1,19 +1,14 @@
 -- What is printed of P4's and P5's rows, and of anything but 65,536 bytes.
 -- Assumes nothing.
-use mathlib.Core.Path.{_≡_, ap}
+use mathlib.Core.Path.{_≡_}
 use mathlib.Core.List.{List}
 use Prim.Native.Nat.{ℕ}
 use lib.ListN.{length, set, replicate}
+use Rattle.base.specs.Text.{ascii}
 use Rattle.cellprism.specs.Answer.{rowChecked}
-use Rattle.cellprism.specs.Sheet.{other-length, zero-bytes, one-column}
-use Rattle.layout.specs.Ascii.{ascii}
-use Rattle.rowcheck.specs.Text.{decimalIn, lineOf}
+use Rattle.rowcheck.specs.Text.{lineOf}
 
 pub record Lines : Type 0 where
   pub other : (bytes : List ℕ) → (length bytes ≡ 65536 → ⊥) → lineOf (rowChecked bytes) ≡ ascii "refused 2\n"
   pub zeros : lineOf (rowChecked (replicate 65536 0)) ≡ ascii "accepted rows=514\n"
   pub one : lineOf (rowChecked (set (replicate 65536 0) 32768 1)) ≡ ascii "failed bin row=263 rows=264\n"
-
-pub lines : Lines
-unfolding decimalIn
-lines = record { other = λ bytes h. ap lineOf (other-length bytes h); zeros = ap lineOf zero-bytes; one = ap lineOf one-column }

@@ -7,7 +7,7 @@ use Prim.Native.Char.{code}
 use Prim.Native.Nat.{ℕ, zero, suc, _+_, _/_, _%_}
 use lib.Dec.{ltb}
 use lib.ListN.{length, take, drop}
-use Rattle.layout.specs.Ascii.{ascii}
+use Rattle.base.specs.Text.{ascii}
 use Rattle.circuit.specs.declared.Relation.{Relation}
 use Rattle.circuit.specs.declared.Relation.the-variants.{Bin, Fld}
 use Rattle.verdict.specs.declared.Verdict.{Verdict}

@@ -4,7 +4,7 @@ use mathlib.Core.Bool.{Bool, false, not, cond}
 use Prim.Native.Nat.{ℕ}
 use lib.Dec.{eqb, ltb}
 use lib.Signed.{ltZ}
-use Rattle.step.specs.Words.{signed}
+use Rattle.base.specs.Bits.{signed}
 
 abbrev pub belowSigned : ℕ → ℕ → Bool
 belowSigned x y = ltZ (signed 63 x) (signed 63 y)

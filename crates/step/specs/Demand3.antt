@@ -1,5 +1,5 @@
--- Demand 3 of the mission, clause by clause, of a batch as it is lent. "Accepted" and "fails" are the two verdicts of the check as it is called,
--- questions included.
+-- Demand 3 of the mission, clause by clause, of a batch as it is lent. "Accepted" and "fails" are the two verdicts of the check as it is
+-- called, questions included.
 -- Assumes nothing.
 use mathlib.Core.Path.{_≡_}
 use mathlib.Core.Logic.{_↔_}
@@ -7,17 +7,17 @@ use mathlib.Core.Bool.{Bool, true, false, not}
 use mathlib.Core.List.{List}
 use Prim.Native.Nat.{ℕ, _+_, _*_, _^_, _<_}
 use lib.ListN.{length, getD}
+use Rattle.base.specs.Bits.{digit, word}
 use Rattle.field.specs.declared.Gf128.{Gf128}
 use Rattle.field.specs.Gf.{one, isBit}
-use Rattle.field.specs.Sums.{digit}
 use Rattle.layout.specs.Columns.{ONE-COL, RS1, RS2, T1, T2, SUB, IS-ARITH, HALT, TAKEN}
+use Rattle.layout.specs.Batch.{batchWords}
 use Rattle.verdict.specs.declared.Verdict.{Verdict}
 use Rattle.verdict.specs.declared.Verdict.the-variants.{Accepted, Failed}
 use Rattle.verdict.specs.declared.CheckAnswer.{CheckAnswer}
 use Rattle.verdict.specs.declared.CheckAnswer.the-variants.{Judged, Refused}
-use Rattle.verdict.specs.Row.{elementAt, cycleOf}
+use Rattle.verdict.specs.Row.{elementAt, cycleOf, bitsOf}
 use Rattle.verdict.specs.Check.{checked}
-use Rattle.step.specs.Words.{bitsOf, word}
 use Rattle.step.specs.Step.{opcode, funct3}
 use Rattle.step.specs.Branch.{branchHolds}
 use Rattle.step.specs.Derived.{derived}
@@ -27,7 +27,7 @@ use Rattle.step.specs.Filling.{SameElsewhere, filling, countFillings, fi
 
 pub record Premises (cpi : ℕ) (batch : List ℕ) : Type 0 where
   -- 4,096 elements a cycle, of two words each; a word has 64 bits
-  pub words : length batch ≡ 8192 * cpi
+  pub words : length batch ≡ batchWords cpi
   pub fit : (i : ℕ) → getD batch i 0 < 2 ^ 64
   pub given : (c d : ℕ) → c < 2048 → d < cpi → derived c ≡ false → isBit (cycleOf cpi batch d c) ≡ true
   pub one-is : elementAt batch (2048 * cpi) ≡ one
@@ -87,6 +87,7 @@ module _ (listing : List ℕ) (Conditions : (ℕ → Bool) → Gf128 → Type 0)
     pub others : (v : ℕ → Bool) → (filling cpi v batch ≡ filled cpi batch → ⊥) → fails (answer (filling cpi v batch)) ≡ true
     -- in the accepted one, in every cycle, halt is 1 exactly when the opcode is 0x73
     pub halt : FillerAccepted → (d : ℕ) → d < cpi → (filledCycle d HALT ≡ one) ↔ (opcode (filledCycleBits d) ≡ 0x73)
-    -- there too, in every cycle that compares RS1 with RS2, taken is 1 exactly when the opcode is 0x63 and the ISA's condition for funct3 holds
+    -- there too, in every cycle that compares RS1 with RS2, taken is 1 exactly when the opcode is 0x63 and the ISA's condition for funct3
+    -- holds
     pub taken : FillerAccepted → (d : ℕ) → d < cpi → Compares (filledCycleBits d)
         → (filledCycle d TAKEN ≡ one) ↔ TakesBranch (filledCycleBits d)

@@ -6,9 +6,8 @@ use mathlib.Core.Bool.{Bool, true, false, cond}
 use mathlib.Core.List.{List}
 use Prim.Native.Nat.{ℕ, zero, suc, _+_, _*_, _/_, _%_, _<_}
 use lib.ListN.{length, set}
-use Rattle.field.specs.Sums.{digit}
-use Rattle.verdict.specs.Row.{elementAt}
-use Rattle.step.specs.Words.{bitsOf}
+use Rattle.base.specs.Bits.{digit}
+use Rattle.verdict.specs.Row.{elementAt, bitsOf}
 use Rattle.step.specs.Derived.{derivedIn}
 use Rattle.step.specs.Determining.{filledBits}
 
@@ -35,7 +34,8 @@ module _ (q : ℕ → Bool) where
   -- how many ways of doing so pass the test p: with 0 in the first of the columns, and with 1
   unfoldable pub count : (List ℕ → Bool) → ℕ → ℕ → List ℕ → ℕ
   count p zero x batch = digit (p batch)
-  count p (suc n) x batch = cond (q x) (count p n (suc x) (put batch x false) + count p n (suc x) (put batch x true)) (count p n (suc x) batch)
+  count p (suc n) x batch = cond (q x) (count p n (suc x) (put batch x false) + count p n (suc x) (put batch x true))
+      (count p n (suc x) batch)
 
 -- the filling with bits v
 unfoldable pub filling : ℕ → (ℕ → Bool) → List ℕ → List ℕ

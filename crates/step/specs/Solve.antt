@@ -5,9 +5,9 @@ use mathlib.Core.Bool.{Bool, false, cond, _&&_}
 use mathlib.Core.List.{List, [], _∷_}
 use Prim.Native.Nat.{ℕ}
 use lib.Dec.{eqb}
+use Rattle.base.specs.Bits.{_⊻_}
 use Rattle.circuit.specs.Rows.{Term, Sides}
 use Rattle.verdict.specs.OverBits.{sumBits}
-use Rattle.step.specs.Words.{_⊻_}
 
 -- what a row lacks over bits, A · B + C: 0 where the row holds
 unfoldable pub lacks : (ℕ → Bool) → Sides → Bool

@@ -3,14 +3,12 @@
 use mathlib.Core.Path.{_≡_}
 use mathlib.Core.Bool.{Bool, true, false}
 use mathlib.Core.List.{List, [], _∷_}
-use Prim.Native.Nat.{ℕ, _+_, _-_, _*_, _%_, _^_, _<_}
+use Prim.Native.Nat.{ℕ, _+_, _-_, _*_, _%_, _^_}
 use lib.ListN.{getD}
+use Rattle.base.specs.Bits.{digit, _⊻_, word}
 use Rattle.field.specs.declared.Gf128.{Gf128}
 use Rattle.field.specs.Gf.{ofWords}
-use Rattle.field.specs.Sums.{digit}
-use Rattle.field.specs.Sums.Laws.{val-lt}
 use Rattle.layout.specs.Columns.{RS1, RD, LOAD-VAL, SHIFT-OUT, T1, T2, ALU, SUB, WE, IS-LOAD, IS-STORE, IS-ARITH, IS-SHIFT, LD-BYTE, LD-HALF, LD-WORD, OFF, RAM-ADDR, FETCH-OP, FETCH-FUNCT3}
-use Rattle.step.specs.Words.{_⊻_, word}
 
 -- fields of the instruction bus: FETCH bits 0..6, and 25..27
 abbrev pub opcode : (ℕ → Bool) → ℕ
@@ -67,10 +65,3 @@ pub record Step (b : ℕ → Bool) (output : Gf128) : Type 0 where
   pub upper-zero : Condition b output 8
   pub second-zero : Condition b output 9
   pub address : Condition b output 10
-
--- OFF and funct3 have three bits
-pub offset-lt : (b : ℕ → Bool) → offset b < 8
-offset-lt b = val-lt 3 (λ i. b (OFF + i))
-
-pub funct3-lt : (b : ℕ → Bool) → funct3 b < 8
-funct3-lt b = val-lt 3 (λ i. b (FETCH-FUNCT3 + i))

@@ -1,6 +1,1 @@
-// The step conditions and the filling.
-mod bits;
-pub mod conditions;
-pub mod derive;
-pub mod fill;
-mod words;
+// The step conditions, the filling and demand 3 are a theory, all of it in specs/. What runs stands in crate filler.

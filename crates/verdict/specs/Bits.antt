@@ -1,28 +1,19 @@
 -- The bit test.
 -- Assumes nothing.
-use mathlib.Core.Path.{_≡_, refl, sym, ap, _∙_}
-use mathlib.Core.Logic.{⊎-elim}
-use mathlib.Core.Bool.{Bool, true, false, not, cond}
+use mathlib.Core.Bool.{Bool, not, cond}
 use mathlib.Core.List.{List}
-use Prim.Native.Nat.{ℕ, zero, suc, _+_, _-_, _*_, _<_, _≤_}
-use native.Mathlib.Nat.{add-zero, eq-or-lt-of-le}
-use native.Mathlib.Numerals.{add-one}
-use native.Mathlib.Omega.{arith}
-use lib.Dec.{eqb, ltb}
+use Prim.Native.Nat.{ℕ, _*_}
+use lib.Dec.{ltb}
 use lib.ListN.{length}
+use Rattle.base.specs.Tests.{firstFrom}
 use Rattle.field.specs.Gf.{isBit}
 use Rattle.layout.specs.declared.CycleColumnAnswer.{CycleColumnAnswer}
 use Rattle.layout.specs.declared.CycleColumnAnswer.the-variants.{At, Refused as NotMapped}
-use Rattle.layout.specs.Batch.{allowed, unmapped}
-use Rattle.layout.specs.Questions.{no, passed, refused}
+use Rattle.layout.specs.Batch.{unmapped, batchAsked}
+use Rattle.layout.specs.Questions.{ifYes}
 use Rattle.verdict.specs.declared.bits.BitAnswer.{BitAnswer}
 use Rattle.verdict.specs.declared.bits.BitAnswer.the-variants.{AllBits, NotBit, Refused}
 use Rattle.verdict.specs.Row.{elementAt}
-
--- the first of the n numbers from i on that passes the test, or i + n where none does
-unfoldable pub firstFrom : (ℕ → Bool) → ℕ → ℕ → ℕ
-firstFrom test i zero = i
-firstFrom test i (suc n) = cond (test i) i (firstFrom test (i + 1) n)
 
 -- an element that is neither 0 nor 1
 abbrev pub aboveOne : List ℕ → ℕ → Bool
@@ -36,64 +27,7 @@ placed at (NotMapped r) = Refused r
 -- questions 1 and 2
 unfoldable pub bitTested : ℕ → List ℕ → BitAnswer
 bitTested cpi batch =
-    cond (allowed cpi)
-    (cond (eqb (length batch) (8192 * cpi))
+    ifYes Refused (batchAsked cpi (length batch))
     (cond (ltb (firstFrom (aboveOne batch) 0 (2048 * cpi)) (2048 * cpi))
     (placed (firstFrom (aboveOne batch) 0 (2048 * cpi)) (unmapped cpi (firstFrom (aboveOne batch) 0 (2048 * cpi))))
     AllBits)
-    (Refused (no 2 0)))
-    (Refused (no 1 0))
-
--- ---- the search: a turn at i with up to the limit to go
-
-module _ (test : ℕ → Bool) where
-  pub first-stops : (i limit : ℕ) → i < limit → test i ≡ true → firstFrom test i (limit - i) ≡ i
-  unfolding firstFrom
-  first-stops i limit h e = let s : limit - i ≡ suc (limit - (i + 1)) = omega arith in rw (s, e)
-
-  pub first-goes : (i limit : ℕ) → i < limit → test i ≡ false → firstFrom test i (limit - i) ≡ firstFrom test (i + 1) (limit - (i + 1))
-  unfolding firstFrom
-  first-goes i limit h e = let s : limit - i ≡ suc (limit - (i + 1)) = omega arith in rw (s, e)
-
-  pub first-ends : (i limit : ℕ) → limit ≤ i → firstFrom test i (limit - i) ≡ i
-  unfolding firstFrom
-  first-ends i limit h = let s : limit - i ≡ 0 = omega arith in rw s
-
-  -- it starts at its first number
-  pub first-from : (n i : ℕ) → i ≤ firstFrom test i n
-  unfolding firstFrom
-  first-from zero i = omega arith
-  first-from (suc n) i = by-test (test i) (first-from n (i + 1))
-    where
-      by-test : (b : Bool) → i + 1 ≤ firstFrom test (i + 1) n → i ≤ cond b i (firstFrom test (i + 1) n)
-      by-test true h = omega arith
-      by-test false h = omega arith
-
-  -- it passes the test where it is one of the n, and none before it does
-  pub first-passes : (n i : ℕ) → firstFrom test i n < i + n → test (firstFrom test i n) ≡ true
-  unfolding firstFrom
-  first-passes zero i h = absurd (omega arith)
-  first-passes (suc n) i h = by-test (test i) refl (first-passes n (i + 1)) h
-    where
-      by-test : (b : Bool) → test i ≡ b → (firstFrom test (i + 1) n < i + 1 + n → test (firstFrom test (i + 1) n) ≡ true)
-          → cond b i (firstFrom test (i + 1) n) < i + suc n → test (cond b i (firstFrom test (i + 1) n)) ≡ true
-      by-test true e later l = e
-      by-test false e later l = later (omega arith)
-
-  pub first-least : (n i k : ℕ) → i ≤ k → k < firstFrom test i n → test k ≡ false
-  unfolding firstFrom
-  first-least zero i k l h = absurd (omega arith)
-  first-least (suc n) i k l h = by-test (test i) refl (first-least n (i + 1) k) h
-    where
-      by-test : (b : Bool) → test i ≡ b → (i + 1 ≤ k → k < firstFrom test (i + 1) n → test k ≡ false)
-          → k < cond b i (firstFrom test (i + 1) n) → test k ≡ false
-      by-test true e later h = absurd (omega arith)
-      by-test false e later h = ⊎-elim (λ q. ap test (sym q) ∙ e) (λ g. later (omega arith) h) (eq-or-lt-of-le l)
-
-  -- where none passes, it ends
-  pub first-none : (n i : ℕ) → ((k : ℕ) → i ≤ k → k < i + n → test k ≡ false) → firstFrom test i n ≡ i + n
-  unfolding firstFrom
-  first-none zero i h = sym (add-zero i)
-  first-none (suc n) i h =
-      ap (λ (b : Bool). cond b i (firstFrom test (i + 1) n)) (h i (omega arith) (omega arith))
-      ∙ first-none n (i + 1) (λ k l m. h k (omega arith) (omega arith)) ∙ omega arith

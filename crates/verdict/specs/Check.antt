@@ -2,17 +2,17 @@
 -- Assumes nothing.
 use mathlib.Core.Bool.{Bool, true, false, cond}
 use mathlib.Core.List.{List, [], _∷_, _++_, map}
-use Prim.Native.Nat.{ℕ, _+_, _*_}
-use lib.Dec.{eqb}
+use Prim.Native.Nat.{ℕ, _+_}
 use lib.ListN.{length, replicate}
+use Rattle.base.specs.Lists.{fromEach}
 use Rattle.field.specs.declared.Gf128.{Gf128}
 use Rattle.layout.specs.declared.Asked.{Asked}
 use Rattle.layout.specs.declared.Asked.the-variants.{Yes, No}
-use Rattle.layout.specs.Batch.{allowed}
-use Rattle.layout.specs.Questions.{no}
+use Rattle.layout.specs.Batch.{batchAsked, scratchFits}
+use Rattle.layout.specs.Questions.{no, ifYes}
 use Rattle.circuit.specs.declared.Relation.{Relation}
 use Rattle.circuit.specs.declared.Relation.the-variants.{Bin, Fld}
-use Rattle.circuit.specs.Rows.{Row, fromEach}
+use Rattle.circuit.specs.Rows.{Row}
 use Rattle.circuit.specs.Circuit.{circuitWords}
 use Rattle.circuit.specs.Parse.{rowsOf}
 use Rattle.circuit.specs.Batched.{batchRow}
@@ -69,12 +69,7 @@ judged cpi listing batch = run (met (cycleOf cpi batch)) 0 (constraints cpi (row
 -- questions 1, 2, 5, and those on the listing; of batch and scratch the number of words
 unfoldable pub asked : ℕ → List ℕ → ℕ → ℕ → Asked
 asked cpi listing words room =
-    cond (allowed cpi)
-    (cond (eqb words (8192 * cpi))
-    (cond (eqb room 3072) (validated listing)
-    (No (no 5 0)))
-    (No (no 2 0)))
-    (No (no 1 0))
+    ifYes No (batchAsked cpi words) (cond (scratchFits room) (validated listing) (No (no 5 0)))
 
 -- the answer and the scratch afterwards: a verdict leaves zeros, a refusal what was there
 pub record Checked : Type 0 where
@@ -91,8 +86,4 @@ checked cpi listing batch scratch =
 
 -- the same over the house listing, which is in order, and with no scratch: questions 1 and 2
 unfoldable pub houseChecked : ℕ → List ℕ → CheckAnswer
-houseChecked cpi batch =
-    cond (allowed cpi)
-    (cond (eqb (length batch) (8192 * cpi)) (Judged (judged cpi circuitWords batch))
-    (Refused (no 2 0)))
-    (Refused (no 1 0))
+houseChecked cpi batch = ifYes Refused (batchAsked cpi (length batch)) (Judged (judged cpi circuitWords batch))

@@ -4,8 +4,9 @@ use mathlib.Core.Bool.{Bool}
 use mathlib.Core.List.{List, [], _∷_}
 use Prim.Native.Nat.{ℕ, _+_, _*_}
 use lib.ListN.{getD}
+use lib.Dec.{eqb}
 use Rattle.field.specs.declared.Gf128.{Gf128}
-use Rattle.field.specs.Gf.{ofWords, zero, added, product, power, same}
+use Rattle.field.specs.Gf.{ofWords, zero, added, product, power, same, low}
 use Rattle.layout.specs.Batch.{columnAt}
 use Rattle.circuit.specs.declared.Coefficient.{Coefficient}
 use Rattle.circuit.specs.declared.Coefficient.the-variants.{Zero, Power}
@@ -40,3 +41,7 @@ balanced s = same (product (s .a) (s .b)) (s .c)
 
 abbrev pub holds : (ℕ → Gf128) → Sides → Bool
 holds z s = balanced (sumsOf z s)
+
+-- cycle d of a batch as bits: a column's bit is whether its low word is 1. (Over elements 0 and 1, that is which of them it is.)
+unfoldable pub bitsOf : ℕ → List ℕ → ℕ → ℕ → Bool
+bitsOf cpi batch d c = eqb (low (cycleOf cpi batch d c)) 1

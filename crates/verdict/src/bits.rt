@@ -1,15 +1,16 @@
 // The bit test: does every column below one_col hold 0 or 1? The check does not ask, as the original's does not.
 use field::Gf128;
+use layout::Asked;
 use layout::CycleColumnAnswer;
 use layout::Refusal;
 ghost use mathlib.Core.Path.{_≡_};
-ghost use mathlib.Core.Bool.{not};
 ghost use Prim.Native.Nat.{_*_, _+_, _<_, _≤_};
 ghost use lib.ListN.{length};
 ghost use Rattle.field.specs.Gf.{isBit};
 ghost use Rattle.layout.specs.Batch.{unmapped};
 ghost use Rattle.verdict.specs.Row.{elementAt};
-ghost use Rattle.verdict.specs.Bits.{firstFrom, aboveOne, placed, bitTested};
+ghost use Rattle.base.specs.Tests.{firstFrom};
+ghost use Rattle.verdict.specs.Bits.{aboveOne, placed, bitTested};
 
 // All bits, or the smallest batch column above 1, which is this column of this cycle.
 pub enum BitAnswer {
@@ -58,23 +59,16 @@ fn place(cpi: usize, at: usize) -> BitAnswer
 pub fn bit_test(cpi: usize, batch: &[u64]) -> BitAnswer
     ensures { λ r. ⌜ r ≡ bitTested cpi (now (batch .entry)) ⌝ }
 {
-    if !layout::is_allowed(cpi) {
-        return BitAnswer::Refused(Refusal {
-            number: 1,
-            place: 0,
-        });
-    }
-    if batch.len() != 8192 * cpi {
-        return BitAnswer::Refused(Refusal {
-            number: 2,
-            place: 0,
-        });
-    }
-    let columns = 2048 * cpi;
-    let at = first_above(batch, columns);
-    if at < columns {
-        place(cpi, at)
-    } else {
-        BitAnswer::AllBits
+    match layout::ask_batch(cpi, batch.len()) {
+        Asked::No(r) => BitAnswer::Refused(r),
+        Asked::Yes => {
+            let columns = 2048 * cpi;
+            let at = first_above(batch, columns);
+            if at < columns {
+                place(cpi, at)
+            } else {
+                BitAnswer::AllBits
+            }
+        }
     }
 }

@@ -10,9 +10,10 @@ use field::Gf128;
 use layout::Asked;
 use layout::Refusal;
 ghost use mathlib.Core.Path.{_≡_};
-ghost use Prim.Native.Nat.{_*_, _≤_};
+ghost use Prim.Native.Nat.{_≤_};
 ghost use lib.ListN.{length, replicate};
-ghost use Rattle.verdict.specs.Apply.{RowFound, appliedAt, applied};
+ghost use Rattle.layout.specs.Batch.{batchWords};
+ghost use Rattle.verdict.specs.Apply.{RowFound, appliedAt, appliedTo, applied};
 ghost use Rattle.verdict.specs.Check.{Checked, asked, checked, houseChecked};
 
 // A verdict: `rows` counts the cycle-and-mark pairs that were tested, the failing one included; `row` is the batch row, 512 · d + r in
@@ -61,30 +62,21 @@ pub fn clear(s: &mut [u64])
 fn ask(cpi: usize, listing: &[u32], words: usize, room: usize) -> Asked
     ensures { λ r. ⌜ r ≡ asked cpi (now (listing .entry)) words room ⌝ }
 {
-    if !layout::is_allowed(cpi) {
-        return Asked::No(Refusal {
-            number: 1,
-            place: 0,
-        });
+    match layout::ask_batch(cpi, words) {
+        Asked::No(r) => Asked::No(r),
+        Asked::Yes => {
+            if !layout::scratch_fits(room) {
+                return Asked::No(layout::refused(5));
+            }
+            circuit::questions::validate(listing)
+        }
     }
-    if words != 8192 * cpi {
-        return Asked::No(Refusal {
-            number: 2,
-            place: 0,
-        });
-    }
-    if room != 3072 {
-        return Asked::No(Refusal {
-            number: 5,
-            place: 0,
-        });
-    }
-    circuit::questions::validate(listing)
 }
 
 // The check of a batch of cpi cycles against a listing. It needs no scratch of its own, and leaves the lent one zero.
 pub fn check_row(cpi: usize, listing: &[u32], batch: &[u64], scratch: &mut [u64]) -> CheckAnswer
-    ensures { λ r. ⌜ _≡_ {A = Checked} (record { answer = r; scratch = now (scratch .exit) }) (checked cpi (now (listing .entry)) (now (batch .entry)) (now (scratch .entry))) ⌝ }
+    ensures { λ r. ⌜ _≡_ {A = Checked} (record { answer = r; scratch = now (scratch .exit) })
+        (checked cpi (now (listing .entry)) (now (batch .entry)) (now (scratch .entry))) ⌝ }
 {
     match ask(cpi, listing, batch.len(), scratch.len()) {
         Asked::No(r) => CheckAnswer::Refused(r),
@@ -99,40 +91,54 @@ pub fn check_row(cpi: usize, listing: &[u32], batch: &[u64], scratch: &mut [u64]
 pub fn check_house(cpi: usize, batch: &[u64]) -> CheckAnswer
     ensures { λ r. ⌜ r ≡ houseChecked cpi (now (batch .entry)) ⌝ }
 {
-    if !layout::is_allowed(cpi) {
-        return CheckAnswer::Refused(Refusal {
-            number: 1,
-            place: 0,
-        });
+    match layout::ask_batch(cpi, batch.len()) {
+        Asked::No(r) => CheckAnswer::Refused(r),
+        Asked::Yes => {
+            let listing = circuit::build_circuit();
+            CheckAnswer::Judged(walk::walk(cpi, &listing, batch))
+        }
     }
-    if batch.len() != 8192 * cpi {
-        return CheckAnswer::Refused(Refusal {
-            number: 2,
-            place: 0,
-        });
-    }
-    let listing = circuit::build_circuit();
-    CheckAnswer::Judged(walk::walk(cpi, &listing, batch))
 }
 
 // The sums of the row that was found, where the cycle is one of the batch.
 fn apply_row(cpi: usize, listing: &[u32], batch: &[u64], found: Found, cycle: usize) -> ApplyAnswer
-    requires { ⌜ (cpi ≤ 256) × ((length (now batch) ≡ 8192 * cpi) × RowFound (now listing) found) ⌝ }
+    requires { ⌜ (cpi ≤ 256) × ((length (now batch) ≡ batchWords cpi) × RowFound (now listing) found) ⌝ }
     ensures { λ r. ⌜ r ≡ appliedAt cpi (now (listing .entry)) (now (batch .entry)) cycle found ⌝ }
 {
     match found {
         Found::Refused(r) => ApplyAnswer::Refused(r),
         Found::At { start, end: _ } => {
             if cpi <= cycle {
-                return ApplyAnswer::Refused(Refusal {
-                    number: 15,
-                    place: 0,
-                });
+                return ApplyAnswer::Refused(layout::refused(15));
             }
             let row = row_sums(cpi, listing, start + 1, batch, cycle);
             let sums = row.sums;
             ApplyAnswer::Of(sums)
         }
+    }
+}
+
+// Questions 6 to 10, 13 and 15.
+fn apply_listed(
+    cpi: usize,
+    listing: &[u32],
+    batch: &[u64],
+    relation: Relation,
+    row: usize,
+    cycle: usize,
+) -> ApplyAnswer
+    requires { ⌜ (cpi ≤ 256) × (length (now batch) ≡ batchWords cpi) ⌝ }
+    ensures { λ r. ⌜ r ≡ appliedTo cpi (now (listing .entry)) (now (batch .entry)) relation row cycle ⌝ }
+{
+    match circuit::questions::validate(listing) {
+        Asked::No(r) => ApplyAnswer::Refused(r),
+        Asked::Yes => apply_row(
+            cpi,
+            listing,
+            batch,
+            circuit::search::find_row(listing, relation, row),
+            cycle,
+        ),
     }
 }
 
@@ -147,26 +153,8 @@ pub fn apply(
 ) -> ApplyAnswer
     ensures { λ r. ⌜ r ≡ applied cpi (now (listing .entry)) (now (batch .entry)) relation row cycle ⌝ }
 {
-    if !layout::is_allowed(cpi) {
-        return ApplyAnswer::Refused(Refusal {
-            number: 1,
-            place: 0,
-        });
-    }
-    if batch.len() != 8192 * cpi {
-        return ApplyAnswer::Refused(Refusal {
-            number: 2,
-            place: 0,
-        });
-    }
-    match circuit::questions::validate(listing) {
+    match layout::ask_batch(cpi, batch.len()) {
         Asked::No(r) => ApplyAnswer::Refused(r),
-        Asked::Yes => apply_row(
-            cpi,
-            listing,
-            batch,
-            circuit::search::find_row(listing, relation, row),
-            cycle,
-        ),
+        Asked::Yes => apply_listed(cpi, listing, batch, relation, row, cycle),
     }
 }

@@ -1,5 +1,6 @@
 // The sums of a row in a cycle of a batch.
 use crate::Sums;
+use circuit::Side;
 use field::Gf128;
 ghost use mathlib.Core.Path.{_≡_};
 ghost use mathlib.Core.Bool.{true};
@@ -9,8 +10,8 @@ ghost use lib.ListN.{length, drop};
 ghost use Rattle.layout.specs.Batch.{columnAt};
 ghost use Rattle.circuit.specs.Words.{coefficientOf};
 ghost use Rattle.verdict.specs.Row.{cycleOf, times};
-ghost use Rattle.verdict.specs.Runs.{sorted};
-ghost use Rattle.verdict.specs.Walks.{Cycle, SideSummed, RowSummed, RowTested};
+ghost use Rattle.verdict.specs.RowParts.{sorted};
+ghost use Rattle.verdict.specs.Promises.{Cycle, SideSummed, RowSummed, RowTested};
 
 // The sum of a side, and the index behind its terms.
 pub struct SideSum {
@@ -60,7 +61,7 @@ fn side_sum(
     cpi: usize,
     listing: &[u32],
     from: usize,
-    side: u32,
+    side: Side,
     batch: &[u64],
     cycle: usize,
 ) -> SideSum
@@ -71,7 +72,7 @@ fn side_sum(
     let mut i = from;
     while i < listing.len() {
         let w = listing[i];
-        if side < w >> 30 {
+        if circuit::words::side_kind(side) < w >> 30 {
             return SideSum { sum, end: i };
         }
         sum = sum.add(term(cpi, batch, cycle, w));
@@ -85,9 +86,9 @@ pub fn row_sums(cpi: usize, listing: &[u32], from: usize, batch: &[u64], cycle: 
     requires { ⌜ Cycle cpi cycle (now batch) × ((from ≤ length (now listing)) × (sorted 0 (drop from (now listing)) ≡ true)) ⌝ }
     ensures { λ r. ⌜ RowSummed (cycleOf cpi (now (batch .entry)) cycle) (now (listing .entry)) from r ⌝ }
 {
-    let a = side_sum(cpi, listing, from, 0, batch, cycle);
-    let b = side_sum(cpi, listing, a.end, 1, batch, cycle);
-    let c = side_sum(cpi, listing, b.end, 2, batch, cycle);
+    let a = side_sum(cpi, listing, from, Side::A, batch, cycle);
+    let b = side_sum(cpi, listing, a.end, Side::B, batch, cycle);
+    let c = side_sum(cpi, listing, b.end, Side::C, batch, cycle);
     let x = a.sum;
     let y = b.sum;
     let z = c.sum;

@@ -7,15 +7,15 @@ ghost use mathlib.Core.Bool.{true};
 ghost use Prim.Native.Nat.{_+_, _*_, _<_, _≤_};
 ghost use lib.ListN.{length};
 ghost use Rattle.layout.specs.declared.Asked.the-variants.{Yes};
-ghost use Rattle.layout.specs.Batch.{allowed};
+ghost use Rattle.layout.specs.Batch.{allowed, batchWords};
 ghost use Rattle.circuit.specs.Found.{until};
 ghost use Rattle.circuit.specs.Batched.{batchRow};
 ghost use Rattle.circuit.specs.Valid.{validated};
 ghost use Rattle.verdict.specs.Row.{cycleOf};
-ghost use Rattle.verdict.specs.Runs.{sorted};
+ghost use Rattle.verdict.specs.RowParts.{sorted};
 ghost use Rattle.verdict.specs.Check.{met, run, judged};
 ghost use Rattle.verdict.specs.Order.{isFldMark};
-ghost use Rattle.verdict.specs.Left.{partAt, allParts};
+ghost use Rattle.verdict.specs.StillToTest.{partAt, allParts};
 
 fn is_fld_mark(w: u32) -> bool
     ensures { λ r. ⌜ r ≡ isFldMark w ⌝ }
@@ -55,7 +55,8 @@ fn batch_row(relation: Relation, cycle: usize, row: usize) -> usize
 
 // Left by its label at the first row that does not hold.
 fn walk_parts<'a>(cpi: usize, bin: &'a [u32], fld: &'a [u32], batch: &[u64]) -> Verdict
-    requires { ⌜ (cpi ≤ 256) × ((length (now batch) ≡ 8192 * cpi) × ((length (now bin) ≤ 16384) × ((length (now fld) ≤ 16384) × ((sorted 3 (now bin) ≡ true) × (sorted 3 (now fld) ≡ true))))) ⌝ }
+    requires { ⌜ (cpi ≤ 256) × ((length (now batch) ≡ batchWords cpi)
+        × ((length (now bin) ≤ 16384) × ((length (now fld) ≤ 16384) × ((sorted 3 (now bin) ≡ true) × (sorted 3 (now fld) ≡ true))))) ⌝ }
     ensures { λ r. ⌜ r ≡ run (met (cycleOf cpi (now (batch .entry)))) 0 (allParts cpi (now (bin .entry)) (now (fld .entry)) 0) ⌝ }
 {
     let mut tested: usize = 0;
@@ -90,7 +91,7 @@ fn walk_parts<'a>(cpi: usize, bin: &'a [u32], fld: &'a [u32], batch: &[u64]) -> 
 
 // The verdict on a batch whose size and listing are in order.
 pub fn walk(cpi: usize, listing: &[u32], batch: &[u64]) -> Verdict
-    requires { ⌜ (allowed cpi ≡ true) × ((length (now batch) ≡ 8192 * cpi) × (validated (now listing) ≡ Yes)) ⌝ }
+    requires { ⌜ (allowed cpi ≡ true) × ((length (now batch) ≡ batchWords cpi) × (validated (now listing) ≡ Yes)) ⌝ }
     ensures { λ r. ⌜ r ≡ judged cpi (now (listing .entry)) (now (batch .entry)) ⌝ }
 {
     let split = first_fld(listing);

@@ -7,9 +7,9 @@ use native.Mathlib.Omega.{arith}
 use borrow.Author.Tests.{lt-ltb, le-ltb}
 use lib.Dec.{ltb}
 use lib.Signed.{ltZ}
-use Rattle.step.specs.Words.{signed}
+use Rattle.base.specs.Bits.{signed}
 use Rattle.step.specs.Branch.{belowSigned}
-use Rattle.step.specs.Compare.{less-flipped, signed-pos, signed-neg}
+use Rattle.base.specs.Laws.Compare.{less-flipped, signed-pos, signed-neg}
 
 -- of any width: by the sides of 2^n on which the words lie
 module _ (n x y : ℕ) where

@@ -3,28 +3,20 @@
 use mathlib.Core.Path.{_≡_}
 use mathlib.Core.Bool.{true, cond}
 use mathlib.Core.List.{List}
-use Prim.Native.Nat.{ℕ, _+_, _-_, _*_, _/_, _%_}
+use Prim.Native.Nat.{ℕ, _+_, _*_, _/_, _%_}
 use lib.Dec.{eqb}
 use lib.ListN.{length, getD}
+use Rattle.base.specs.Lists.{from}
 use Rattle.layout.specs.declared.Asked.{Asked}
 use Rattle.layout.specs.declared.Asked.the-variants.{Yes, No}
-use Rattle.layout.specs.Batch.{allowed}
-use Rattle.layout.specs.Questions.{no}
-use Rattle.circuit.specs.Rows.{from}
-use Rattle.step.specs.Fill.{Called, after}
-use Rattle.witness.specs.Upper.{publicFits, batchWord}
+use Rattle.layout.specs.Batch.{allowed, batchWords}
+use Rattle.layout.specs.Questions.{no, ifYes, Called, after}
+use Rattle.witness.specs.Upper.{publicAsked, batchWord}
 
 -- questions 1 to 4, of the numbers of words: the cycles', the public values', the batch's
 unfoldable pub assemblyAsked : ℕ → ℕ → ℕ → ℕ → Asked
 assemblyAsked cpi cycles public batch =
-    cond (allowed cpi)
-    (cond (eqb batch (8192 * cpi))
-    (cond (publicFits public (4096 * cpi - 2))
-    (cond (eqb cycles (4096 * cpi)) Yes
-    (No (no 4 0)))
-    (No (no 3 0)))
-    (No (no 2 0)))
-    (No (no 1 0))
+    ifYes No (publicAsked cpi public batch) (cond (eqb cycles (4096 * cpi)) Yes (No (no 4 0)))
 
 -- where batch column x stands among the lent columns: it is column x / cpi of cycle x % cpi, and a cycle lends 2,048 of them
 unfoldable pub lentColumn : ℕ → ℕ → ℕ
@@ -38,7 +30,7 @@ abbrev pub assembledWord : ℕ → List ℕ → List ℕ → ℕ → ℕ
 assembledWord cpi cycles public = batchWord (2048 * cpi) (cycleWord cpi cycles) public
 
 unfoldable pub assembled : ℕ → List ℕ → List ℕ → List ℕ
-assembled cpi cycles public = from 0 (8192 * cpi) (assembledWord cpi cycles public)
+assembled cpi cycles public = from 0 (batchWords cpi) (assembledWord cpi cycles public)
 
 -- the call, with every slice as it is lent
 unfoldable pub assemblyCalled : ℕ → List ℕ → List ℕ → List ℕ → Called

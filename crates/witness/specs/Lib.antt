@@ -1,23 +1,16 @@
--- Makers and readers of rows. What a reader must believe is in these:
---     Upper           what row and batch share: question 3, the one column, the public values
---     Table           the made row, field by field
---     Row             a column of it, and the call: `rowCalled`
---     Assembly        the batch of cpi cycles, and the call: `assemblyCalled`
---     Reading         the branch reading, and with it P10 of the bench sheet
--- and the theorems are `all-bits` of MadeRow, `filling-keeps` of Refilled, `yes-assembled` of Assembled, `taken-column` of TakenColumn. Written is the law
--- of a loop that writes a slice, Halves what a row and a batch hold by element; Packed, Groups, RowWords and Carried give the made row by words of 64 columns.
-pub mod Written
-pub mod Upper
-pub mod Halves
-pub mod Packed
-pub mod Groups
+-- The row maker, assembly of a batch and the branch reading. RowWords serves contracts of private functions.
+-- What a reader must believe:
+--     Table             the row that a cycle's record and its ROM row make, field by field
+--     Row               the made row, column by column, and the row maker as it is called
+--     Upper             what a row and a batch share: questions 1 to 3, and the columns from one_col on
+--     Assembly          assembly: the witness columns of cpi cycles, lent cycle after cycle, and the public values in one batch
+--     Reading           the branch reading of an instruction: by the same ISA's condition that demand 3 speaks of
+--     RowWords          the made row by words: 18 words of 64 columns hold all of its fields
+-- What follows from these, which the prover checks: Laws.
 pub mod Table
 pub mod Row
-pub mod RowWords
-pub mod Carried
-pub mod MadeRow
-pub mod Refilled
+pub mod Upper
 pub mod Assembly
-pub mod Assembled
 pub mod Reading
-pub mod TakenColumn
+pub mod RowWords
+pub mod Laws

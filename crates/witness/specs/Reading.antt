@@ -1,10 +1,9 @@
 -- The branch reading of an instruction: by the same ISA's condition that demand 3 speaks of.
 -- Assumes nothing.
-use mathlib.Core.Path.{_≡_, refl}
+use mathlib.Core.Path.{_≡_}
 use mathlib.Core.Bool.{cond}
 use Prim.Native.Nat.{ℕ, _%_, _^_}
 use lib.Dec.{eqb}
-use Rattle.step.specs.Words.{signed}
 use Rattle.step.specs.Branch.{branchHolds}
 use Rattle.witness.specs.declared.branch.BranchReading.{BranchReading}
 use Rattle.witness.specs.declared.branch.BranchReading.the-variants.{NoBranch, Taken, NotTaken}
@@ -18,7 +17,3 @@ pub record P10 : Type 0 where
   pub blt : reading 0x63 4 (2 ^ 63) 1 ≡ Taken
   pub bltu : reading 0x63 6 (2 ^ 63) 1 ≡ NotTaken
   pub bge : reading 0x63 5 7 7 ≡ Taken
-
-pub p10 : P10
-unfolding reading branchHolds signed
-p10 = record { blt = refl; bltu = refl; bge = refl }

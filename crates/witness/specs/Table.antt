@@ -6,12 +6,9 @@ use mathlib.Core.Bool.{Bool, not, cond, _&&_, _||_}
 use mathlib.Core.List.{List, [], _∷_}
 use Prim.Native.Nat.{ℕ, zero, suc, _+_, _-_, _%_, _^_}
 use lib.Dec.{eqb}
-use Rattle.field.specs.Sums.{digit, val}
+use Rattle.base.specs.Bits.{digit, val, _⊻_, alike, bitAt}
+use Rattle.base.specs.Blocks.{Block, block}
 use Rattle.layout.specs.Columns.{OP-BITS, IDX-BITS, FUNCT3-BITS, IMM-BITS, RS1, RS2, RD, LOAD-VAL, SHIFT-OUT, T1, T2, CARRY-OFF, ALU, SHIFT-SRC, STORE-OLD, STORE-SRC, SUB, WE, IS-LOAD, IS-STORE, IS-ARITH, HALT, IS-SHIFT, IS-LOGIC, LD-BYTE, LD-HALF, LD-WORD, TAKEN, OFF, RAM-ADDR, PC, FETCH-OP, FETCH-RD, FETCH-RS1, FETCH-RS2, FETCH-FUNCT3, FETCH-IMM, EQA, PA, EQB, PB, CA, CH, CH2, NH, WNL, ZERO, OPSYS, OPBR, EQFM, EQF, LTSA, LTSB, LTUA, LTUB, CEQ, CLT, CLU, ZE16, ZE8}
-use Rattle.step.specs.Words.{_⊻_}
-use Rattle.step.specs.Chain.{alike}
-use Rattle.step.specs.Fill.Bits.{bitAt}
-use Rattle.step.specs.Fill.Blocks.{Block, block}
 use Rattle.witness.specs.declared.records.CycleRecord.{CycleRecord}
 use Rattle.witness.specs.declared.records.RomRow.{RomRow}
 

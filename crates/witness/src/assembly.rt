@@ -1,50 +1,35 @@
 // The batch of cpi cycles: their witness columns, interleaved, and the upper half.
-use crate::upper::public_fits;
+use crate::upper::ask_public;
 use crate::upper::write_upper;
 use layout::Asked;
-use layout::Refusal;
 ghost use mathlib.Core.Path.{_≡_};
 ghost use Prim.Native.Nat.{_+_, _*_, _<_, _≤_};
 ghost use lib.ListN.{length};
-ghost use Rattle.step.specs.Fill.{Called};
+ghost use Rattle.layout.specs.Questions.{Called};
+ghost use Rattle.layout.specs.Batch.{batchWords};
 ghost use Rattle.witness.specs.Assembly.{assemblyAsked, cycleWord, assembled, Lent, assemblyCalled};
-ghost use Rattle.witness.specs.Written.{Written};
+ghost use Rattle.base.specs.Written.{Written};
 
 // Questions 1 to 4, of the numbers of words.
 fn ask(cpi: usize, cycles: usize, public: usize, batch: usize) -> Asked
     ensures { λ r. ⌜ r ≡ assemblyAsked cpi cycles public batch ⌝ }
 {
-    if !layout::is_allowed(cpi) {
-        return Asked::No(Refusal {
-            number: 1,
-            place: 0,
-        });
+    match ask_public(cpi, public, batch) {
+        Asked::No(r) => Asked::No(r),
+        Asked::Yes => {
+            if cycles != 4096 * cpi {
+                return Asked::No(layout::refused(4));
+            }
+            Asked::Yes
+        }
     }
-    if batch != 8192 * cpi {
-        return Asked::No(Refusal {
-            number: 2,
-            place: 0,
-        });
-    }
-    if !public_fits(public, 4096 * cpi - 2) {
-        return Asked::No(Refusal {
-            number: 3,
-            place: 0,
-        });
-    }
-    if cycles != 4096 * cpi {
-        return Asked::No(Refusal {
-            number: 4,
-            place: 0,
-        });
-    }
-    Asked::Yes
 }
 
 // A column of every cycle: one cycle after the other in the lent words, side by side in the batch.
 fn write_column(cpi: usize, cycles: &[u64], column: usize, batch: &mut [u64])
-    requires { ⌜ Lent cpi (now cycles) × ((length (now batch) ≡ 8192 * cpi) × (column < 2048)) ⌝ }
-    ensures { λ _. ⌜ Written (cycleWord cpi (now (cycles .entry))) (2 * (column * cpi)) (2 * (column * cpi) + 2 * cpi) (now (batch .entry)) (now (batch .exit)) ⌝ }
+    requires { ⌜ Lent cpi (now cycles) × ((length (now batch) ≡ batchWords cpi) × (column < 2048)) ⌝ }
+    ensures { λ _. ⌜ Written (cycleWord cpi (now (cycles .entry))) (2 * (column * cpi))
+        (2 * (column * cpi) + 2 * cpi) (now (batch .entry)) (now (batch .exit)) ⌝ }
 {
     let start = 2 * (column * cpi);
     let mut cycle: usize = 0;
@@ -57,7 +42,7 @@ fn write_column(cpi: usize, cycles: &[u64], column: usize, batch: &mut [u64])
 }
 
 fn write_columns(cpi: usize, cycles: &[u64], batch: &mut [u64])
-    requires { ⌜ Lent cpi (now cycles) × (length (now batch) ≡ 8192 * cpi) ⌝ }
+    requires { ⌜ Lent cpi (now cycles) × (length (now batch) ≡ batchWords cpi) ⌝ }
     ensures { λ _. ⌜ Written (cycleWord cpi (now (cycles .entry))) 0 (4096 * cpi) (now (batch .entry)) (now (batch .exit)) ⌝ }
 {
     let mut column: usize = 0;
@@ -68,7 +53,8 @@ fn write_columns(cpi: usize, cycles: &[u64], batch: &mut [u64])
 }
 
 fn assemble(cpi: usize, cycles: &[u64], public: &[u64], batch: &mut [u64])
-    requires { ⌜ Lent cpi (now cycles) × ((length (now batch) ≡ 8192 * cpi) × (4096 * cpi + 2 + length (now public) ≤ 8192 * cpi)) ⌝ }
+    requires { ⌜ Lent cpi (now cycles) × ((length (now batch) ≡ batchWords cpi)
+        × (4096 * cpi + 2 + length (now public) ≤ batchWords cpi)) ⌝ }
     ensures { λ _. ⌜ now (batch .exit) ≡ assembled cpi (now (cycles .entry)) (now (public .entry)) ⌝ }
 {
     write_columns(cpi, cycles, batch);
@@ -77,7 +63,8 @@ fn assemble(cpi: usize, cycles: &[u64], public: &[u64], batch: &mut [u64])
 
 // A no leaves the batch as it came; a yes leaves nothing of it.
 pub fn assemble_instance_z(cpi: usize, cycles: &[u64], public: &[u64], batch: &mut [u64]) -> Asked
-    ensures { λ r. ⌜ _≡_ {A = Called} (record { answer = r; batch = now (batch .exit) }) (assemblyCalled cpi (now (cycles .entry)) (now (public .entry)) (now (batch .entry))) ⌝ }
+    ensures { λ r. ⌜ _≡_ {A = Called} (record { answer = r; batch = now (batch .exit) })
+        (assemblyCalled cpi (now (cycles .entry)) (now (public .entry)) (now (batch .entry))) ⌝ }
 {
     let asked = ask(cpi, cycles.len(), public.len(), batch.len());
     match asked {

@@ -1,27 +1,27 @@
 // The row of one cycle, from its record and its ROM row. All of its fields lie in 18 words of 64 columns.
 use crate::records::CycleRecord;
 use crate::records::RomRow;
-use crate::upper::public_fits;
+use crate::upper::ask_public;
 use crate::upper::write_upper;
+use filler::derive::GivenWords;
+use filler::derive::derive;
+use filler::derive::word_of;
 use layout::Asked;
-use layout::Refusal;
-use step::derive::GivenWords;
-use step::derive::derive;
-use step::derive::word_of;
 ghost use mathlib.Core.Path.{_≡_};
 ghost use mathlib.Core.List.{[], _∷_};
 ghost use Prim.Native.Nat.{_+_, _<_, _≤_};
-ghost use Rattle.circuit.specs.Rows.{from};
+ghost use Rattle.base.specs.Lists.{from};
 ghost use lib.ListN.{length, getD};
-ghost use Rattle.step.specs.Fill.{Called};
-ghost use Rattle.step.specs.Fill.Fields.{pack, flags};
+ghost use Rattle.layout.specs.Questions.{Called};
+ghost use Rattle.layout.specs.Batch.{CYCLE-WORDS};
+ghost use Rattle.base.specs.Fields.{pack, flags};
 ghost use Rattle.witness.specs.Table.{subtracts, secondOperand, aluOf, busRd};
 ghost use Rattle.witness.specs.RowWords.{flagsWord, busWord, givenWords, rowWords, bitIn, bitsFrom};
-ghost use Rattle.witness.specs.Row.{rowAsked, bitWord, rowWord, rowCalled};
-ghost use Rattle.witness.specs.Written.{Written};
+ghost use Rattle.witness.specs.Row.{bitWord, rowWord, rowCalled};
+ghost use Rattle.base.specs.Written.{Written};
 
 // Six bits as a word, the first lowest.
-fn six(a: bool, b: bool, c: bool, d: bool, e: bool, f: bool) -> u64
+fn word_of_six(a: bool, b: bool, c: bool, d: bool, e: bool, f: bool) -> u64
     ensures { λ r. ⌜ (r ≡ pack (flags (a ∷ b ∷ c ∷ d ∷ e ∷ f ∷ []))) × (r < 64) ⌝ }
 {
     let high = word_of(d) + 2 * (word_of(e) + 2 * word_of(f));
@@ -38,7 +38,7 @@ fn subtracts(cycle: CycleRecord) -> bool
 fn flags_word(cycle: CycleRecord) -> u64
     ensures { λ r. ⌜ r ≡ flagsWord cycle ⌝ }
 {
-    let low = six(
+    let low = word_of_six(
         subtracts(cycle),
         cycle.we,
         cycle.is_load,
@@ -46,7 +46,7 @@ fn flags_word(cycle: CycleRecord) -> u64
         cycle.is_arith,
         cycle.halted_latch,
     );
-    let high = six(
+    let high = word_of_six(
         cycle.is_shift,
         cycle.is_logic,
         cycle.ld_byte,
@@ -178,37 +178,19 @@ fn write_words(words: &[u64], row: &mut [u64])
 }
 
 fn write_row(words: &[u64], public: &[u64], row: &mut [u64])
-    requires { ⌜ (length (now row) ≡ 8192) × (length (now public) ≤ 4094) ⌝ }
-    ensures { λ _. ⌜ now (row .exit) ≡ from 0 8192 (rowWord (bitIn (now (words .entry))) (now (public .entry))) ⌝ }
+    requires { ⌜ (length (now row) ≡ CYCLE-WORDS) × (length (now public) ≤ 4094) ⌝ }
+    ensures { λ _. ⌜ now (row .exit) ≡ from 0 CYCLE-WORDS (rowWord (bitIn (now (words .entry))) (now (public .entry))) ⌝ }
 {
     write_words(words, row);
     write_upper(public, 4096, row);
 }
 
-// Questions 2 and 3, of the numbers of words.
-fn ask(public: usize, row: usize) -> Asked
-    ensures { λ r. ⌜ r ≡ rowAsked public row ⌝ }
-{
-    if row != 8192 {
-        return Asked::No(Refusal {
-            number: 2,
-            place: 0,
-        });
-    }
-    if !public_fits(public, 4094) {
-        return Asked::No(Refusal {
-            number: 3,
-            place: 0,
-        });
-    }
-    Asked::Yes
-}
-
-// A no leaves the row as it came; a yes leaves nothing of it.
+// Questions 2 and 3: a row is a batch of one cycle. A no leaves the row as it came; a yes leaves nothing of it.
 pub fn witness_row(cycle: CycleRecord, rom: RomRow, public: &[u64], row: &mut [u64]) -> Asked
-    ensures { λ r. ⌜ _≡_ {A = Called} (record { answer = r; batch = now (row .exit) }) (rowCalled cycle rom (now (public .entry)) (now (row .entry))) ⌝ }
+    ensures { λ r. ⌜ _≡_ {A = Called} (record { answer = r; batch = now (row .exit) })
+        (rowCalled cycle rom (now (public .entry)) (now (row .entry))) ⌝ }
 {
-    let asked = ask(public.len(), row.len());
+    let asked = ask_public(1, public.len(), row.len());
     match asked {
         Asked::No(r) => Asked::No(r),
         Asked::Yes => {

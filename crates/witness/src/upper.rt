@@ -1,12 +1,13 @@
-// The upper half of a row or a batch: the one column, the public values, and zeros behind them.
+// What rows and batches share: questions 1 to 3, and the upper half, the one column, the public values, and zeros behind them.
+use layout::Asked;
 ghost use mathlib.Core.Path.{_≡_};
 ghost use Prim.Native.Nat.{_+_, _≤_};
 ghost use lib.ListN.{length};
-ghost use Rattle.witness.specs.Upper.{publicFits, upperFrom};
-ghost use Rattle.witness.specs.Written.{Written};
+ghost use Rattle.witness.specs.Upper.{publicFits, publicAsked, upperFrom};
+ghost use Rattle.base.specs.Written.{Written};
 
 // Question 3: a public value has two words, and there is room for so many words at most.
-pub fn public_fits(words: usize, most: usize) -> bool
+fn public_fits(words: usize, most: usize) -> bool
     ensures { λ r. ⌜ r ≡ publicFits words most ⌝ }
 {
     if words % 2 != 0 {
@@ -15,9 +16,25 @@ pub fn public_fits(words: usize, most: usize) -> bool
     words <= most
 }
 
+// Questions 1 to 3, of the numbers of words: the public values', the batch's.
+pub fn ask_public(cpi: usize, public: usize, batch: usize) -> Asked
+    ensures { λ r. ⌜ r ≡ publicAsked cpi public batch ⌝ }
+{
+    match layout::ask_batch(cpi, batch) {
+        Asked::No(r) => Asked::No(r),
+        Asked::Yes => {
+            if !public_fits(public, 4096 * cpi - 2) {
+                return Asked::No(layout::refused(3));
+            }
+            Asked::Yes
+        }
+    }
+}
+
 fn copy_public(public: &[u64], start: usize, out: &mut [u64])
     requires { ⌜ start + 2 + length (now public) ≤ length (now out) ⌝ }
-    ensures { λ _. ⌜ Written (upperFrom start (now (public .entry))) (start + 2) (start + 2 + length (now (public .entry))) (now (out .entry)) (now (out .exit)) ⌝ }
+    ensures { λ _. ⌜ Written (upperFrom start (now (public .entry))) (start + 2) (start + 2 + length (now (public .entry)))
+        (now (out .entry)) (now (out .exit)) ⌝ }
 {
     let mut i: usize = 0;
     while i < public.len() {
@@ -40,7 +57,8 @@ fn clear_from(start: usize, out: &mut [u64])
 // All words from start on, which is where the one column stands.
 pub fn write_upper(public: &[u64], start: usize, out: &mut [u64])
     requires { ⌜ start + 2 + length (now public) ≤ length (now out) ⌝ }
-    ensures { λ _. ⌜ Written (upperFrom start (now (public .entry))) start (length (now (out .entry))) (now (out .entry)) (now (out .exit)) ⌝ }
+    ensures { λ _. ⌜ Written (upperFrom start (now (public .entry))) start (length (now (out .entry)))
+        (now (out .entry)) (now (out .exit)) ⌝ }
 {
     out[start] = 1;
     out[start + 1] = 0;

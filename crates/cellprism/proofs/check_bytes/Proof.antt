@@ -1,27 +1,29 @@
--- `cellprism::check_bytes` meets its contract: 65,536 bytes are 8,192 words; what the short way says yes to is accepted, and the check of the words is the
--- answer for the rest.
+-- `cellprism::check_bytes` meets its contract: 65,536 bytes are a row's words; what the short way says yes to is accepted, and the check of
+-- the words is the answer for the rest.
 -- Assumes nothing.
 use mathlib.Core.Path.{sym, ap, _∙_}
 use native.Mathlib.Omega.{arith}
 use borrow.Author.Tests.{eq-eqb, ne-eqb}
-use Rattle.layout.specs.Questions.{passed, refused}
+use Rattle.base.specs.Laws.Tests.{passed, refused}
+use Rattle.verdict.specs.declared.CheckAnswer.the-variants.{Refused}
 use Rattle.verdict.specs.Check.{houseChecked}
-use Rattle.judge.specs.Short.Laws.{house-short}
+use Rattle.judge.specs.Laws.Short.{house-short}
 use Rattle.cellprism.specs.Answer.{rowChecked}
-use Rattle.cellprism.specs.Packing.{row-fits}
+use Rattle.cellprism.specs.Laws.Packing.{row-fits}
 use borrow.Author.Needs.{needs}
 use Rattle.cellprism.proofs.check_bytes.Statement.{statement}
 use Rattle.cellprism.proofs.check_bytes.Tie as tie
 
 returns : tie.Need-returns
 unfolding rowChecked
-returns c = refused _ _ _ (ne-eqb _ _ (c .if1 .taken))
+returns c = ap Refused (c .refused .ensures) ∙ refused _ _ _ (ne-eqb _ _ (c .before .if1 .taken))
 
 returns-2 : tie.Need-returns-2
 unfolding rowChecked
 returns-2 c =
     let c2 = c .before .before in let c3 = c2 .before in let c4 = c3 .before in
-    house-short 1 _ (row-fits (c4 .args .bytes .now) (λ i. omega (arith, c3 .shared-slice-known .given i))) (sym (c .before .short-yes .ensures) ∙ c .if2 .taken)
+    house-short 1 _ (row-fits (c4 .args .bytes .now) (λ i. omega (arith, c3 .shared-slice-known .given i)))
+    (sym (c .before .short-yes .ensures) ∙ c .if2 .taken)
     ∙ passed _ _ _ (eq-eqb _ _ (c2 .if1 .left))
 
 returns-3 : tie.Need-returns-3
@@ -33,12 +35,5 @@ returns-3 c =
 pub check-bytes-spec : {M : Type 1} → statement M
 check-bytes-spec =
     tie.close
-    (tie.spec
-    returns
-    (λ c κs. search needs)
-    returns-2
-    (λ c. search needs)
-    (λ c κs. search needs)
-    (λ c. search needs)
-    (λ c κs. search needs)
-    returns-3)
+    (tie.spec (λ c κs. search needs) returns (λ c κs. search needs) returns-2 (λ c. search needs) (λ c κs. search needs)
+    (λ c. search needs) (λ c κs. search needs) returns-3)

@@ -1,16 +1,13 @@
 -- `circuit::is_house` meets its contract: what differs so far is 0 exactly where the words passed are the same.
 -- Assumes nothing.
-use mathlib.Core.Path.{_≡_, sym, ap, subst, _∙_}
+use mathlib.Core.Path.{_≡_, subst}
 use mathlib.Core.Logic.{_↔_}
 use mathlib.Core.List.{List}
-use mathlib.Core.Bool.{true}
 use Prim.Native.Nat.{ℕ, _-_, _≤_}
 use native.Mathlib.Omega.{arith}
-use lib.Dec.{eqb}
-use lib.ListN.{length}
 use Rattle.circuit.specs.Circuit.{circuitWords}
-use Rattle.circuit.specs.House.{counts}
-use Rattle.circuit.specs.Compared.{SameBelow, compared-none, compared-more, compared-all, other-length}
+use Rattle.circuit.specs.Laws.House.{counts}
+use Rattle.base.specs.Laws.Compared.{SameBelow, compared-none, compared-more, compared-all, other-length}
 use borrow.Author.Needs.{needs}
 use Rattle.circuit.proofs.is_house.Statement.{statement}
 use Rattle.circuit.proofs.is_house.Tie as tie
@@ -48,7 +45,10 @@ loop-less c = omega (arith, c .before .before .before .before .if1 .left, c .bef
 loop-again : tie.Need-loop-again Inv-loop μ-loop
 loop-again c =
     let c2 = c .before .before in let c3 = c2 .before in let c6 = c3 .before .before .before in
-    let l = c2 .loop in (omega (arith, c .before .loop-test .taken), compared-more (c6 .args .listing .now) (c3 .build-circuit .result) (l .i) (l .different) (l .inv .1))
+    let l = c2 .loop in (
+      omega (arith, c .before .loop-test .taken),
+      compared-more (c6 .args .listing .now) (c3 .build-circuit .result) (l .i) (l .different) (l .inv .1),
+    )
 
 returns-2 : tie.Need-returns-2 Inv-loop μ-loop
 returns-2 c =
@@ -56,22 +56,11 @@ returns-2 c =
     let l = c .before .loop in let a = c5 .args .listing .now in let e = c2 .build-circuit .ensures in
     compared-all a circuitWords 3499 (l .different) (c3 .if1 .left) (counts .words)
     (subst (λ (t : List ℕ). (l .different ≡ 0) ↔ SameBelow a t 3499) e
-    (subst (λ (n : ℕ). (l .different ≡ 0) ↔ SameBelow a (c2 .build-circuit .result) n) (omega (arith, l .inv .0, c .loop-test .left)) (l .inv .1)))
+    (subst (λ (n : ℕ). (l .different ≡ 0) ↔ SameBelow a (c2 .build-circuit .result) n)
+    (omega (arith, l .inv .0, c .loop-test .left)) (l .inv .1)))
 
 pub is-house-spec : {M : Type 1} → statement M
 is-house-spec =
     tie.close
-    (tie.spec
-    Inv-loop
-    μ-loop
-    returns
-    (λ c κs. search needs)
-    loop-holds
-    mul-different
-    shared-slice-read-different
-    mul-different-2
-    array-read-different
-    add-i
-    loop-less
-    loop-again
-    returns-2)
+    (tie.spec Inv-loop μ-loop returns (λ c κs. search needs) loop-holds mul-different shared-slice-read-different
+    mul-different-2 array-read-different add-i loop-less loop-again returns-2)

@@ -12,20 +12,16 @@ refusal c = c .refused-at .ensures ∙ sym (ap batchNumber (c .before .before .w
 pub batch-number-spec : {M : Type 1} → statement M
 batch-number-spec =
     tie.close
-    (tie.spec
-    (λ c. search needs)
-    (λ c κs. search needs)
+    (tie.spec (λ c. search needs) (λ c κs. search needs)
     (λ c. omega (arith, c .mark-number .ensures, ap batchNumber (c .before .before .w .given .1)))
-    (λ c. omega (arith, c .mark-number .ensures, ap batchNumber (c .before .before .w .given .1)))
-    (λ c. search needs)
+    (λ c. omega (arith, c .mark-number .ensures, ap batchNumber (c .before .before .w .given .1))) (λ c. search needs)
     (λ c κs. search needs)
     (λ c. omega (arith, c .coefficient-number .ensures, ap batchNumber (c .before .before .w2 .given .1)))
     (λ c. omega (arith, c .coefficient-number .ensures, ap batchNumber (c .before .before .w2 .given .1)))
-    (λ c. search needs)
-    (λ c. omega (arith, c .coefficient-number .ensures, ap batchNumber (c .before .before .w2 .given .1)))
-    (λ c. omega (arith, c .coefficient-number .ensures, ap batchNumber (c .before .before .w2 .given .1)))
-    (λ c. search needs)
-    (λ c κs. search needs)
+    (λ c κs. search needs) (λ c. search needs)
+    (λ c. let b = c .before in omega (arith, c .side-kind .ensures, b .coefficient-number .ensures, ap batchNumber (b .before .before .w2 .given .1)))
+    (λ c. let b = c .before in omega (arith, c .side-kind .ensures, b .coefficient-number .ensures, ap batchNumber (b .before .before .w2 .given .1)))
+    (λ c. search needs) (λ c κs. search needs)
     (λ c. omega (arith, c .mark-number .ensures, ap batchNumber (c .before .before .w .given .1)))
-    (λ c. omega (arith, c .coefficient-number .ensures, ap batchNumber (c .before .before .w2 .given .1)))
+    (λ c. let b = c .before in omega (arith, c .side-kind .ensures, b .coefficient-number .ensures, ap batchNumber (b .before .before .w2 .given .1)))
     refusal)

@@ -11,9 +11,4 @@ refusal c = c .refused-at .ensures ∙ sym (ap columnNumber (c .before .before .
 pub column-number-spec : {M : Type 1} → statement M
 column-number-spec =
     tie.close
-    (tie.spec
-    (λ c. search needs)
-    (λ c. search needs)
-    (λ c κs. search needs)
-    (λ c. search needs)
-    refusal)
+    (tie.spec (λ c. search needs) (λ c. search needs) (λ c κs. search needs) (λ c. search needs) refusal)

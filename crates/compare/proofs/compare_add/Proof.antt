@@ -6,9 +6,4 @@ use Rattle.compare.proofs.compare_add.Tie as tie
 pub compare-add-spec : {M : Type 1} → statement M
 compare-add-spec =
     tie.close
-    (tie.spec
-    (λ c κs. search needs)
-    (λ c κs. search needs)
-    (λ c κs. search needs)
-    (λ c κs. search needs)
-    (λ c. cc))
+    (tie.spec (λ c κs. search needs) (λ c κs. search needs) (λ c κs. search needs) (λ c κs. search needs) (λ c. cc))

@@ -20,11 +20,5 @@ refusal c =
 pub compare-geometry-spec : {M : Type 1} → statement M
 compare-geometry-spec =
     tie.close
-    (tie.spec
-    (λ c κs. search needs)
-    (λ c. search needs)
-    (λ c κs. search needs)
-    (λ c. search needs)
-    (λ c κs. search needs)
-    part
+    (tie.spec (λ c κs. search needs) (λ c. search needs) (λ c κs. search needs) (λ c. search needs) (λ c κs. search needs) part
     refusal)

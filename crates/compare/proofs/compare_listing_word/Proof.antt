@@ -4,7 +4,7 @@ use native.Mathlib.Omega.{arith}
 use borrow.Author.Needs.{needs}
 use lib.ListN.{getD, List·getD-eq-default}
 use Rattle.circuit.specs.Circuit.{circuitWords}
-use Rattle.circuit.specs.House.{counts}
+use Rattle.circuit.specs.Laws.House.{counts}
 use Rattle.compare.proofs.compare_listing_word.Statement.{statement}
 use Rattle.compare.proofs.compare_listing_word.Tie as tie
 

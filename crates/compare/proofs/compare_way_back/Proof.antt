@@ -2,7 +2,7 @@
 use mathlib.Core.Path.{sym, ap, _∙_}
 use borrow.Author.Needs.{needs}
 use borrow.Author.Tests.{eq-eqb, ne-eqb}
-use Rattle.layout.specs.Questions.{passed, refused}
+use Rattle.base.specs.Laws.Tests.{passed, refused}
 use Rattle.compare.specs.Numbers.{cycleColumnNumber}
 use Rattle.compare.proofs.compare_way_back.Statement.{statement}
 use Rattle.compare.proofs.compare_way_back.Tie as tie
@@ -28,11 +28,4 @@ refusal c =
 pub compare-way-back-spec : {M : Type 1} → statement M
 compare-way-back-spec =
     tie.close
-    (tie.spec
-    (λ c κs. search needs)
-    (λ c. search needs)
-    (λ c. search needs)
-    (λ c κs. search needs)
-    column
-    cycle
-    refusal)
+    (tie.spec (λ c κs. search needs) (λ c. search needs) (λ c. search needs) (λ c κs. search needs) column cycle refusal)

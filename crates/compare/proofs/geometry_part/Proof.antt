@@ -18,9 +18,5 @@ last-part (suc (suc (suc (suc n)))) g h = refl
 pub geometry-part-spec : {M : Type 1} → statement M
 geometry-part-spec =
     tie.close
-    (tie.spec
-    (λ c. search needs)
-    (λ c. search needs)
-    (λ c. search needs)
-    (λ c. search needs)
+    (tie.spec (λ c. search needs) (λ c. search needs) (λ c. search needs) (λ c. search needs)
     (λ c. last-part (c .before .args .part) _ (omega arith)))

@@ -8,7 +8,7 @@ use native.Mathlib.Omega.{arith}
 use lib.Arith.{bin-ind, lt-one}
 use lib.Pow.{pow-pos, pow-mono, shl-lt, shr-lt}
 use lib.Dec.{lit<}
-use Rattle.field.specs.Sums.{sum}
+use Rattle.base.specs.Sums.{sum}
 use Rattle.field.specs.Gf.{bit, _⊕_, scale, clmul}
 use Rattle.field.specs.Gf.Coefficient.{bit-lt, bit-first, bit-half, bit-double, bit-double-first}
 use Rattle.field.specs.Gf.Sum.{bit-scale, bit-⊕, ⊕-lt, ⊕-shl, ⊕-coefficient, scale-is, scale-le, join}

@@ -1,19 +1,13 @@
 -- The coefficients of a polynomial, and that they determine it.
 use mathlib.Core.Path.{_≡_, refl, sym, ap, _∙_}
 use Prim.Native.Nat.{ℕ, zero, suc, _+_, _*_, _/_, _%_, _^_, _≤_, _<_}
-use native.Mathlib.Nat.{zero-lt-suc, mod-lt, div-eq-of-lt, not-suc-le-zero, le-of-suc-le-suc, lt-of-lt-of-le}
-use native.Mathlib.Numerals.{one-add}
+use native.Mathlib.Nat.{zero-lt-suc, mod-lt, div-eq-of-lt, lt-of-lt-of-le}
 use native.Mathlib.Decide.{decLt}
 use native.Mathlib.Omega.{arith}
 use lib.Arith.{half-le}
-use lib.Pow.{pow-mono, shr-shr, shl-shr}
+use lib.Pow.{pow-mono, shl-shr}
 use Rattle.field.specs.Gf.{bit}
-
--- a coefficient is 0 or 1: two cases
-pub zero-or-one : (P : ℕ → Type 0) → P 0 → P 1 → (c : ℕ) → c < 2 → P c
-zero-or-one P p q zero h = p
-zero-or-one P p q (suc zero) h = q
-zero-or-one P p q (suc (suc c)) h = absurd (not-suc-le-zero (le-of-suc-le-suc (le-of-suc-le-suc h)))
+use Rattle.base.specs.Laws.Numbers.{next-bit}
 
 pub bit-is : (a i : ℕ) → bit a i ≡ a / 2 ^ i % 2
 unfolding bit
@@ -34,7 +28,7 @@ bit-first a = omega arith
 
 pub bit-half : (a i : ℕ) → bit (a / 2) i ≡ bit a (suc i)
 unfolding bit
-bit-half a i = ap (λ (x : ℕ). x % 2) (shr-shr a 1 i ∙ ap (λ (x : ℕ). a / 2 ^ x) (one-add i))
+bit-half a i = sym (next-bit a i)
 
 pub bit-double : (a i : ℕ) → bit (a * 2) (suc i) ≡ bit a i
 bit-double a i = sym (bit-half (a * 2) i) ∙ ap (λ (x : ℕ). bit x i) (shl-shr a 1)

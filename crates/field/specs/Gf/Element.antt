@@ -2,7 +2,6 @@
 use mathlib.Core.Path.{_≡_, refl, sym, ap, ap₂, _∙_}
 use Prim.Native.Nat.{ℕ, _+_, _-_, _*_, _/_, _%_, _^_, _≤_, _<_}
 use native.Mathlib.Nat.{mod-lt, mod-eq-of-lt, div-eq-of-lt, one-mul, mul-assoc, mul-mod-left, sub-add-cancel}
-use lib.Pow
 use lib.Pow.{mod-pow-add, pow-pos, pow-lt, pow-add}
 use lib.Arith.{digits-lt}
 use lib.Dec.{lit<}
@@ -11,6 +10,7 @@ use Rattle.field.specs.Gf.{bit, _⊕_, times-t, _⊗_, ofWords, low, hig
 use Rattle.field.specs.Gf.Coefficient.{same-bits-below}
 use Rattle.field.specs.Gf.Sum.{⊕-mod, ⊕-shr, ⊕-block}
 use Rattle.field.specs.Gf.Product.{⊗-lt, ⊗-two}
+use lib.Pow
 
 pub value-lt : {x : Gf128} → Proper x → value x < 2 ^ 128
 unfolding value low high

@@ -5,13 +5,13 @@ use Prim.Native.Nat.{ℕ, suc, _/_, _^_, _<_}
 use native.Mathlib.Nat.{lt-of-le-of-lt}
 use lib.Dec.{eqb}
 use lib.Pow.{shr-le}
+use Rattle.base.specs.Laws.Numbers.{zero-or-one}
 use Rattle.field.specs.declared.Gf128.{Gf128}
-use Rattle.field.specs.Gf.{bit, scale, _⊗_, value, Proper, element, zero, added, product, power}
-use Rattle.field.specs.Gf.Coefficient.{zero-or-one, bit-lt, bit-first}
+use Rattle.field.specs.Gf.{bit, scale, _⊗_, value, Proper, element, zero, added, product, power, odd}
+use Rattle.field.specs.Gf.Coefficient.{bit-lt, bit-first}
 use Rattle.field.specs.Gf.Sum.{scale-zero, scale-one}
 use Rattle.field.specs.Gf.Product.{⊗-step}
 use Rattle.field.specs.Gf.Element.{value-lt, value-element-lt, value-times-t, element-value, element-zero, element-⊕, product-is}
-use Rattle.field.specs.Gf.Tests.{odd}
 use Rattle.field.specs.Gf.Laws.{proper-power, mul-one, mul-assoc, power-zero, power-suc}
 
 -- x · t^0 = x, and x · t^k · t = x · t^(k + 1)

@@ -6,16 +6,16 @@ use Prim.Native.Nat.{ℕ, zero, suc, _+_, _*_, _/_, _^_, _≤_, _<_}
 use native.Mathlib.Nat.{add-zero, zero-add, mul-comm, mul-assoc, zero-mul, one-mul, pow-suc, not-suc-le-zero, le-of-suc-le-suc, lt-of-lt-of-le}
 use native.Mathlib.Omega.{arith}
 use lib.Pow.{pow-mono}
-use Rattle.field.specs.Sums.{sum, digit, val}
-use Rattle.field.specs.Sums.Laws.{digit-lt, val-lt, val-same, same-bits, no-bits}
+use Rattle.base.specs.Sums.{sum}
+use Rattle.base.specs.Bits.{digit, val}
+use Rattle.base.specs.Laws.Values.{digit-lt, val-lt, val-same, same-bits, no-bits}
 use Rattle.field.specs.declared.Gf128.{Gf128}
-use Rattle.field.specs.Gf as gf
-use Rattle.field.specs.Gf.{bit, _⊕_, ofWords, value, element, one, added, product, power}
+use Rattle.field.specs.Gf.{bit, _⊕_, ofWords, value, element, added, product, power, ofBit}
 use Rattle.field.specs.Gf.Coefficient.{bit-above, bit-first, bit-half}
 use Rattle.field.specs.Gf.Sum.{⊕-comm, ⊕-shl, ⊕-disjoint}
 use Rattle.field.specs.Gf.Element.{value-element-lt, element-word, element-zero, element-⊕, power-is}
 use Rattle.field.specs.Gf.Laws.{proper-power, mul-one, mul-zero, words-zero, words-injective}
-use Rattle.field.specs.Gf.Bits.{bitOf}
+use Rattle.field.specs.Gf as gf
 
 -- ---- the number
 
@@ -33,7 +33,7 @@ bit-val-above n i f h = bit-above _ i (lt-of-lt-of-le (val-lt n f) (pow-mono h))
 
 -- ---- the sum
 
-term : (k : ℕ) (b : Bool) → product (power k) (bitOf b) ≡ element (digit b * 2 ^ k)
+term : (k : ℕ) (b : Bool) → product (power k) (ofBit b) ≡ element (digit b * 2 ^ k)
 term k true = mul-one (power k) (proper-power k) ∙ power-is k ∙ ap element (sym (one-mul (2 ^ k)))
 term k false = mul-zero (power k) ∙ sym element-zero ∙ ap element (sym (zero-mul (2 ^ k)))
 
@@ -45,23 +45,23 @@ digit-below d v k h =
     ∙ ap (λ (a : ℕ). a * 2 ^ k) (⊕-comm d (v * 2) ∙ ⊕-disjoint v 1 h ∙ omega arith)
 
 -- from t^k on
-packed-from : (n k : ℕ) (f : ℕ → Bool) (g : ℕ → Gf128) → ((i : ℕ) → g i ≡ product (power (k + i)) (bitOf (f i)))
+packed-from : (n k : ℕ) (f : ℕ → Bool) (g : ℕ → Gf128) → ((i : ℕ) → g i ≡ product (power (k + i)) (ofBit (f i)))
     → sum gf.zero added n g ≡ element (val f n * 2 ^ k)
 unfolding sum val
 packed-from zero k f g e = sym element-zero ∙ ap element (sym (zero-mul (2 ^ k)))
 packed-from (suc n) k f g e =
-    ap₂ added (e 0 ∙ ap (λ (j : ℕ). product (power j) (bitOf (f 0))) (add-zero k) ∙ term k (f 0))
+    ap₂ added (e 0 ∙ ap (λ (j : ℕ). product (power j) (ofBit (f 0))) (add-zero k) ∙ term k (f 0))
     (packed-from n (suc k) (λ i. f (suc i)) (λ i. g (suc i))
-    (λ i. e (suc i) ∙ ap (λ (j : ℕ). product (power j) (bitOf (f (suc i)))) (omega arith)))
+    (λ i. e (suc i) ∙ ap (λ (j : ℕ). product (power j) (ofBit (f (suc i)))) (omega arith)))
     ∙ sym (element-⊕ _ _) ∙ ap element (digit-below (digit (f 0)) _ k (digit-lt (f 0)))
 
 module _ (n : ℕ) (f : ℕ → Bool) where
   -- the sum over i below n of t^i times bit i
   abbrev pub packed : Gf128
-  packed = sum gf.zero added n (λ i. product (power i) (bitOf (f i)))
+  packed = sum gf.zero added n (λ i. product (power i) (ofBit (f i)))
 
   pub packed-is : packed ≡ element (val f n)
-  packed-is = packed-from n 0 f _ (λ i. ap (λ (j : ℕ). product (power j) (bitOf (f i))) (sym (zero-add i))) ∙ ap element (omega arith)
+  packed-is = packed-from n 0 f _ (λ i. ap (λ (j : ℕ). product (power j) (ofBit (f i))) (sym (zero-add i))) ∙ ap element (omega arith)
 
   -- within one word
   pub packs : n ≤ 64 → packed ≡ ofWords (val f n) 0

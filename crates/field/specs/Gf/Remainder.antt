@@ -8,19 +8,13 @@ use lib.Arith.{bin-ind, digits-mod, digits-div, lt-one}
 use lib.Pow.{pow-pos, pow-mono, shr-lt, shr-shr, shl-shr, shr-mod}
 use lib.Dec.{lit<}
 use Rattle.field.specs.declared.Gf128.{Gf128}
-use Rattle.field.specs.Gf.{bit, _⊕_, scale, times-t, _⊗_, clmul, modulus, value, Proper, product}
+use Rattle.field.specs.Gf.{bit, _⊕_, scale, times-t, _⊗_, clmul, modulus, value, Proper, product, IsProduct}
 use Rattle.field.specs.Gf.Coefficient.{bit-is, bit-lt}
 use Rattle.field.specs.Gf.Sum.{⊕-comm, ⊕-assoc, ⊕-swap, ⊕-self, ⊕-equal, zero-⊕, ⊕-zero, ⊕-lt, ⊕-shr, ⊕-disjoint, scale-⊕, scale-is}
 use Rattle.field.specs.Gf.Product.{⊗-zero, ⊗-horner, ⊗-lt}
 use Rattle.field.specs.Gf.Carryless.{double-⊕, clmul-zero, clmul-horner, ⊕-clmul, clmul-⊕, clmul-lt, power-clmul}
 use Rattle.field.specs.Gf.Element.{value-lt, value-injective, value-product}
 use Rattle.field.specs.Gf.Laws.{proper-product}
-
--- r is a remainder of the carry-less product of a and b
-pub record IsProduct (a b r : ℕ) : Type 0 where
-  pub small : r < 2 ^ 128
-  pub quotient : ℕ
-  pub divides : clmul a b ≡ r ⊕ clmul modulus quotient
 
 -- ---- the product is one
 
@@ -82,7 +76,8 @@ product-unique a b r h p =
     let z = p .quotient ⊕ t .quotient in
     let e : r ⊕ Q ≡ x ⊕ R = sym (p .divides) ∙ t .divides in
     let d : r ⊕ x ≡ clmul modulus z =
-    ⊕-equal (r ⊕ x) (Q ⊕ R) (⊕-swap r x Q R ∙ ap (λ (n : ℕ). n ⊕ (x ⊕ R)) e ∙ ⊕-self (x ⊕ R)) ∙ sym (clmul-⊕ modulus (p .quotient) (t .quotient)) in
+    ⊕-equal (r ⊕ x) (Q ⊕ R) (⊕-swap r x Q R ∙ ap (λ (n : ℕ). n ⊕ (x ⊕ R)) e ∙ ⊕-self (x ⊕ R))
+    ∙ sym (clmul-⊕ modulus (p .quotient) (t .quotient)) in
     let none = multiple-zero z z (lt-power z) (subst (λ (n : ℕ). n < 2 ^ 128) d (⊕-lt 128 (p .small) (t .small))) in
     ⊕-equal r x (d ∙ ap (clmul modulus) none ∙ clmul-zero modulus)
 

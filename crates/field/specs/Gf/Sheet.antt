@@ -1,26 +1,7 @@
 -- The bench sheet's products P1, P2 and P3, by computation.
-use mathlib.Core.Path.{_≡_, refl}
-use mathlib.Core.List.{List, [], _∷_}
-use Prim.Native.Nat.{_^_}
-use Rattle.field.specs.declared.Gf128.{Gf128}
+use mathlib.Core.Path.{refl}
 use Rattle.field.specs.Gf.{bit, _⊕_, scale, turns, multiply, times-t, _⊗_, ofWords, low, high, value, element, product}
-
-pub record Line : Type 0 where
-  pub left : Gf128
-  pub right : Gf128
-  pub result : Gf128
-
--- 2^127 · 2, 2^64 · 2^64, 2^127 · 2^127
-abbrev pub sheet : List Line
-sheet =
-    record { left = ofWords 0 (2 ^ 63); right = ofWords 2 0; result = ofWords 0x87 0 }
-    ∷ record { left = ofWords 0 1; right = ofWords 0 1; result = ofWords 0x87 0 }
-    ∷ record { left = ofWords 0 (2 ^ 63); right = ofWords 0 (2 ^ 63); result = ofWords 0x1067 0xC000_0000_0000_0000 }
-    ∷ []
-
-abbrev pub Holds : List Line → Type 0
-Holds [] = Unit {0}
-Holds (l ∷ ls) = (product (l .left) (l .right) ≡ l .result) × Holds ls
+use Rattle.field.specs.Sheet.{Holds, sheet}
 
 pub sheet-holds : Holds sheet
 unfolding product element value ofWords low high _⊗_ multiply turns times-t scale bit _⊕_

@@ -5,8 +5,9 @@ use native.Mathlib.Nat.{le-refl, add-zero, zero-mul, one-mul}
 use native.Mathlib.Omega.{arith}
 use lib.Pow.{pow-pos}
 use lib.Bits.{xor-comm, xor-zero-r, xor-self, xor-lt, xor-shr, xor-mod, xor-block, xor-shifted}
+use Rattle.base.specs.Laws.Numbers.{zero-or-one}
 use Rattle.field.specs.Gf.{bit, _⊕_, scale}
-use Rattle.field.specs.Gf.Coefficient.{zero-or-one, bit-lt, bit-above, same-bits}
+use Rattle.field.specs.Gf.Coefficient.{bit-lt, bit-above, same-bits}
 
 pub ⊕-comm : (a b : ℕ) → a ⊕ b ≡ b ⊕ a
 unfolding _⊕_

@@ -4,16 +4,12 @@ use mathlib.Core.Bool.{Bool, true, false, _&&_, _||_, false≢true, or-true}
 use Prim.Native.Nat.{ℕ}
 use borrow.Author.Tests.{eqb-true, eq-eqb}
 use lib.Dec.{eqb}
+use Rattle.base.specs.Laws.Tests.{both}
 use Rattle.field.specs.declared.Gf128.{Gf128}
-use Rattle.field.specs.Gf.{bit, ofWords, low, high, value, zero, one, same, isBit}
+use Rattle.field.specs.Gf.{bit, ofWords, low, high, zero, one, same, isBit, ofBit, odd}
 use Rattle.field.specs.Gf.Coefficient.{bit-first}
 use Rattle.field.specs.Gf.Element.{value-zero, value-one}
 use Rattle.field.specs.Gf.Laws.{words}
-use Rattle.field.specs.Gf.Bits.{bitOf}
-
-both : (a b : Bool) → (a && b) ≡ true → (a ≡ true) × (b ≡ true)
-both true b e = (refl, e)
-both false b e = absurd (false≢true e)
 
 -- `same` is equality
 pub same-true : (x y : Gf128) → same x y ≡ true → x ≡ y
@@ -30,14 +26,10 @@ pub same-false : (x y : Gf128) → same x y ≡ false → x ≡ y → ⊥
 same-false x y f e = false≢true (sym f ∙ ap (same x) (sym e) ∙ same-self x)
 
 -- `isBit` holds of 0 and 1, and of nothing else
-pub isBit-bit : (b : Bool) → isBit (bitOf b) ≡ true
+pub isBit-bit : (b : Bool) → isBit (ofBit b) ≡ true
 unfolding isBit
 isBit-bit true = ap (_||_ (same one zero)) (same-self one) ∙ or-true (same one zero)
 isBit-bit false = ap (λ (b : Bool). b || same zero one) (same-self zero)
-
--- whether the coefficient of t^0 is 1
-abbrev pub odd : Gf128 → Bool
-odd x = eqb (bit (value x) 0) 1
 
 odd-zero : odd zero ≡ false
 odd-zero = ap (λ (n : ℕ). eqb (bit n 0) 1) value-zero ∙ ap (λ (n : ℕ). eqb n 1) (bit-first 0)
@@ -45,13 +37,13 @@ odd-zero = ap (λ (n : ℕ). eqb (bit n 0) 1) value-zero ∙ ap (λ (n : ℕ). e
 odd-one : odd one ≡ true
 odd-one = ap (λ (n : ℕ). eqb (bit n 0) 1) value-one ∙ ap (λ (n : ℕ). eqb n 1) (bit-first 1)
 
-pub isBit-true : (x : Gf128) → isBit x ≡ true → x ≡ bitOf (odd x)
+pub isBit-true : (x : Gf128) → isBit x ≡ true → x ≡ ofBit (odd x)
 unfolding isBit
 isBit-true x e = go (same x zero) refl e
   where
-    from : {y : Gf128} {b : Bool} → x ≡ y → odd y ≡ b → y ≡ bitOf b → x ≡ bitOf (odd x)
-    from {y} q o h = q ∙ h ∙ ap (λ (b : Bool). bitOf b) (sym (ap (λ (z : Gf128). odd z) q ∙ o))
+    from : {y : Gf128} {b : Bool} → x ≡ y → odd y ≡ b → y ≡ ofBit b → x ≡ ofBit (odd x)
+    from {y} q o h = q ∙ h ∙ ap (λ (b : Bool). ofBit b) (sym (ap (λ (z : Gf128). odd z) q ∙ o))
 
-    go : (b : Bool) → same x zero ≡ b → (b || same x one) ≡ true → x ≡ bitOf (odd x)
+    go : (b : Bool) → same x zero ≡ b → (b || same x one) ≡ true → x ≡ ofBit (odd x)
     go true z t = from (same-true x zero z) odd-zero refl
     go false z t = from (same-true x one t) odd-one refl

@@ -8,8 +8,8 @@ use borrow.Author.Tests.{le-ltb, ne-eqb}
 use lib.Bits.{bitXor}
 use lib.Dec.{eqb, ltb}
 use Rattle.field.specs.declared.Gf128.{Gf128}
-use Rattle.field.specs.Gf as gf
 use Rattle.field.specs.Gf.{_⊕_, ofWords, low, high, value, element, same, isBit, added}
+use Rattle.field.specs.Gf as gf
 
 pub words-are : (lo hi : ℕ) → record { lo = lo; hi = hi } ≡ ofWords lo hi
 unfolding ofWords

@@ -2,7 +2,7 @@
 -- Assumes nothing.
 use mathlib.Core.Path.{sym, _∙_}
 use native.Mathlib.Omega.{arith}
-use Rattle.judge.specs.Short.Laws.{short-few, house-short}
+use Rattle.judge.specs.Laws.Short.{short-few, house-short}
 use borrow.Author.Needs.{needs}
 use Rattle.judge.proofs.check_house.Statement.{statement}
 use Rattle.judge.proofs.check_house.Tie as tie
@@ -16,5 +16,4 @@ returns c =
     house-short _ _ (λ i. omega (arith, c2 .shared-slice-known .given i)) (sym (c .before .short-yes .ensures) ∙ c .if1 .taken)
 
 pub check-house-spec : {M : Type 1} → statement M
-check-house-spec =
-    tie.close (tie.spec (λ c κs. search needs) mul-t4 returns (λ c κs. search needs) (λ c. search needs))
+check-house-spec = tie.close (tie.spec (λ c κs. search needs) mul-t4 returns (λ c κs. search needs) (λ c. search needs))

@@ -1,13 +1,12 @@
 -- `judge::check_row` meets its contract: what the short way says yes to is accepted and leaves scratch zero, and the rest is walked.
 -- Assumes nothing.
-use mathlib.Core.Path.{sym, ap, _∙_}
+use mathlib.Core.Path.{ap, _∙_}
 use mathlib.Core.List.{List}
 use Prim.Native.Nat.{ℕ, _*_}
 use native.Mathlib.Omega.{arith}
 use Rattle.verdict.specs.declared.Verdict.the-variants.{Accepted}
 use Rattle.verdict.specs.declared.CheckAnswer.the-variants.{Judged}
-use Rattle.verdict.specs.Check.{Checked}
-use Rattle.judge.specs.Short.Laws.{short-few, row-short}
+use Rattle.judge.specs.Laws.Short.{short-few, row-short}
 use borrow.Author.Needs.{needs}
 use Rattle.judge.proofs.check_row.Statement.{statement}
 use Rattle.judge.proofs.check_row.Tie as tie
@@ -27,12 +26,5 @@ returns c =
 pub check-row-spec : {M : Type 1} → statement M
 check-row-spec =
     tie.close
-    (tie.spec
-    (λ c κs. search needs)
-    (λ c κs. search needs)
-    mul-t10
-    (λ c. search needs)
-    returns
-    (λ c κs. search needs)
-    (λ c. search needs)
-    (λ c. search needs))
+    (tie.spec (λ c κs. search needs) (λ c κs. search needs) mul-t10 (λ c. search needs) returns (λ c κs. search needs)
+    (λ c. search needs) (λ c. search needs))

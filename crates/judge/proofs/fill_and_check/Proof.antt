@@ -1,9 +1,9 @@
--- `judge::fill_and_check` meets its contract: the filler's answer picks the case, and demand 3 speaks of what it filled. That words are below 2^64
--- comes from the slice.
+-- `judge::fill_and_check` meets its contract: the filler's answer picks the case, and demand 3 speaks of what it filled. That words are
+-- below 2^64 comes from the slice.
 -- Assumes nothing.
 use native.Mathlib.Omega.{arith}
 use borrow.Author.Needs.{needs}
-use Rattle.judge.specs.FillCheck.Laws.{promised-no, promised-yes}
+use Rattle.judge.specs.Laws.FillCheck.{promised-no, promised-yes}
 use Rattle.judge.proofs.fill_and_check.Statement.{statement}
 use Rattle.judge.proofs.fill_and_check.Tie as tie
 
@@ -19,4 +19,5 @@ returns-2 c =
 pub fill-and-check-spec : {M : Type 1} → statement M
 fill-and-check-spec =
     tie.close
-    (tie.spec (λ c κs. search needs) (λ c. search needs) (λ c. search needs) (λ c κs. search needs) (λ c. search needs) returns (λ c. search needs) returns-2)
+    (tie.spec (λ c κs. search needs) (λ c. search needs) (λ c. search needs) (λ c κs. search needs) (λ c. search needs) returns
+    (λ c. search needs) returns-2)

@@ -1,12 +1,11 @@
 -- `layout::column_at` meets its contract: each branch is the definition's, and a batch has at most 4096 * 256 columns.
 -- Assumes nothing.
-use borrow.Author.Needs.{needs}
 use borrow.Author.Tests.{lt-ltb, le-ltb}
 use native.Mathlib.Nat.{mul-le-mul}
 use native.Mathlib.Omega.{arith}
 use Rattle.layout.specs.Batch.{columnAt}
-use Rattle.layout.specs.Questions.{passed, refused}
-use Rattle.layout.specs.Sizes.{allowed-range}
+use Rattle.base.specs.Laws.Tests.{passed, refused}
+use Rattle.layout.specs.Laws.Sizes.{allowed-range}
 use Rattle.layout.proofs.column_at.Statement.{statement}
 use Rattle.layout.proofs.column_at.Tie as tie
 
@@ -35,5 +34,4 @@ unfolding columnAt
 returns-2 c = refused _ _ _ (le-ltb _ _ (c .if1 .left))
 
 pub column-at-spec : {M : Type 1} → statement M
-column-at-spec =
-    tie.close (tie.spec mul-result add-result mul-result-2 add-result-2 returns returns-2)
+column-at-spec = tie.close (tie.spec mul-result add-result mul-result-2 add-result-2 returns returns-2)

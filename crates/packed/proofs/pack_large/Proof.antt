@@ -3,7 +3,7 @@
 use mathlib.Core.Path.{sym}
 use native.Mathlib.Omega.{arith}
 use lib.Seq.{length-take-le}
-use Rattle.layout.specs.Sizes.{allowed-range}
+use Rattle.layout.specs.Laws.Sizes.{allowed-range}
 use borrow.Author.Needs.{needs}
 use Rattle.packed.proofs.pack_large.Statement.{statement}
 use Rattle.packed.proofs.pack_large.Tie as tie
@@ -22,9 +22,4 @@ pack-many-requires c κs =
 pub pack-large-spec : {M : Type 1} → statement M
 pack-large-spec =
     tie.close
-    (tie.spec
-    array-borrow-prefix-acc
-    slice-aggregate-pack-many
-    pack-many-requires
-    (λ c. search needs)
-    (λ c. search needs))
+    (tie.spec array-borrow-prefix-acc slice-aggregate-pack-many pack-many-requires (λ c. search needs) (λ c. search needs))

@@ -1,8 +1,8 @@
 -- `packed::pack_many` meets its contract: two stretches of words, and the or of what both say.
 -- Assumes nothing.
-use mathlib.Core.Path.{_≡_, refl, _∙_}
+use mathlib.Core.Path.{refl}
 use native.Mathlib.Omega.{arith}
-use Rattle.packed.specs.Named.{some-cycles, two-words, range-in, both-ranges}
+use Rattle.packed.specs.Laws.Named.{some-cycles, two-words, range-in, both-ranges}
 use borrow.Author.Needs.{needs}
 use Rattle.packed.proofs.pack_many.Statement.{statement}
 use Rattle.packed.proofs.pack_many.Tie as tie
@@ -18,7 +18,8 @@ pack-words-requires c κs =
 pack-words-requires-2 : tie.Need-pack-words-requires-2
 pack-words-requires-2 c κs =
     let c6 = c .before .before .before .before .before .before in let c12 = c6 .before .before .before .before .before .before in
-    let p = c12 .pre in (range-in _ _ _ (p .0) 16 18 _ (c6 .pack-words .ensures .lengths) (omega arith) (omega arith), (search needs, two-words _ _ _ (p .0)))
+    let p = c12 .pre in
+    (range-in _ _ _ (p .0) 16 18 _ (c6 .pack-words .ensures .lengths) (omega arith) (omega arith), (search needs, two-words _ _ _ (p .0)))
 
 returns : tie.Need-returns
 returns c =
@@ -29,11 +30,5 @@ returns c =
 pub pack-many-spec : {M : Type 1} → statement M
 pack-many-spec =
     tie.close
-    (tie.spec
-    (λ c. search needs)
-    div-step
-    pack-words-requires
-    pack-words-requires-2
-    (λ c. search needs)
-    (λ c. search needs)
+    (tie.spec (λ c. search needs) div-step pack-words-requires pack-words-requires-2 (λ c. search needs) (λ c. search needs)
     returns)

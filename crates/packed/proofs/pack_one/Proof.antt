@@ -1,7 +1,7 @@
 -- `packed::pack_one` meets its contract: two stretches of words, and the or of what both say.
 -- Assumes nothing.
 use native.Mathlib.Omega.{arith}
-use Rattle.packed.specs.Named.{both-ranges}
+use Rattle.packed.specs.Laws.Named.{both-ranges}
 use borrow.Author.Needs.{needs}
 use Rattle.packed.proofs.pack_one.Statement.{statement}
 use Rattle.packed.proofs.pack_one.Tie as tie

@@ -18,9 +18,4 @@ pack-many-requires c κs =
 pub pack-small-spec : {M : Type 1} → statement M
 pack-small-spec =
     tie.close
-    (tie.spec
-    (λ c. search needs)
-    slice-aggregate-pack-many
-    pack-many-requires
-    (λ c. search needs)
-    (λ c. search needs))
+    (tie.spec (λ c. search needs) slice-aggregate-pack-many pack-many-requires (λ c. search needs) (λ c. search needs))

@@ -13,19 +13,6 @@ zeros n = sym (length-replicate n 0)
 pub main-spec : {M : Type 1} → statement M
 main-spec =
     tie.close
-    (tie.spec
-    (λ c. zeros 0x80001)
-    (λ c κs. search needs)
-    (λ c. search needs)
-    (λ c. search needs)
-    (λ c. zeros 0x8000)
-    (λ c. zeros 0x8000)
-    (λ c. zeros 0x8000)
-    (λ c κs. search needs)
-    (λ c κs. search needs)
-    (λ c. search needs)
-    (λ c κs. search needs)
-    (λ c κs. search needs)
-    (λ c. search needs)
-    (λ c κs. search needs)
-    (λ c. search needs))
+    (tie.spec (λ c. zeros 0x80001) (λ c κs. search needs) (λ c. search needs) (λ c. search needs) (λ c. zeros 0x8000)
+    (λ c. zeros 0x8000) (λ c. zeros 0x8000) (λ c κs. search needs) (λ c κs. search needs) (λ c. search needs)
+    (λ c κs. search needs) (λ c κs. search needs) (λ c. search needs) (λ c κs. search needs) (λ c. search needs))

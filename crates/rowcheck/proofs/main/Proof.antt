@@ -16,15 +16,6 @@ slice-aggregate-write-all c = sym (length-take-le _ _ (put-inside _ _ _ _ (c .be
 pub main-spec : {M : Type 1} → statement M
 main-spec =
     tie.close
-    (tie.spec
-    (λ c. search needs)
-    (λ c κs. search needs)
-    (λ c. search needs)
-    (λ c. search needs)
-    (λ c κs. search needs)
-    (λ c. search needs)
-    (λ c κs. search needs)
-    array-share-prefix-line
-    slice-aggregate-write-all
-    (λ c κs. search needs)
+    (tie.spec (λ c. search needs) (λ c κs. search needs) (λ c. search needs) (λ c. search needs) (λ c κs. search needs)
+    (λ c. search needs) (λ c κs. search needs) array-share-prefix-line slice-aggregate-write-all (λ c κs. search needs)
     (λ c. search needs))

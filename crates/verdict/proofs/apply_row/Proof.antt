@@ -1,28 +1,21 @@
 -- `verdict::apply_row` meets its contract: each arm is given what was found, and behind a mark that was found the terms are sorted.
 -- Assumes nothing.
-use mathlib.Core.Path.{_≡_, sym, ap, subst, _∙_}
-use Prim.Native.Nat.{_≤_}
+use mathlib.Core.Path.{sym, ap, subst, _∙_}
 use borrow.Author.Needs.{needs}
 use borrow.Author.Tests.{lt-ltb, le-ltb}
 use denote.Ref.{now}
 use native.Mathlib.Omega.{arith}
-use Rattle.layout.specs.Questions.{passed, refused}
-use Rattle.verdict.specs.declared.ApplyAnswer.the-variants.{Of}
+use Rattle.base.specs.Laws.Tests.{passed, refused}
+use Rattle.verdict.specs.declared.ApplyAnswer.the-variants.{Of, Refused}
 use Rattle.verdict.specs.Apply.{RowFound, appliedAt}
 use Rattle.verdict.proofs.apply_row.Statement.{statement}
 use Rattle.verdict.proofs.apply_row.Tie as tie
 
-enum-known-found : tie.Need-enum-known-found
-enum-known-found c = search needs
-
-enum-known-found-2 : tie.Need-enum-known-found-2
-enum-known-found-2 c = search needs
-
 returns : tie.Need-returns
 unfolding appliedAt
-returns c =
-    let a = c .before .before .before .before .before .before .args in
-    refused _ _ _ (le-ltb _ _ (c .if1 .taken))
+returns q =
+    let c = q .before in let a = c .before .before .before .before .before .before .args in
+    ap Refused (q .refused .ensures) ∙ refused _ _ _ (le-ltb _ _ (c .if1 .taken))
     ∙ ap (appliedAt (a .cpi) (now (a .listing)) (now (a .batch)) (a .cycle)) (sym (c .before .before .found2 .given .1))
 
 add-row-sums : tie.Need-add-row-sums
@@ -52,4 +45,5 @@ returns-3 c =
 pub apply-row-spec : {M : Type 1} → statement M
 apply-row-spec =
     tie.close
-    (tie.spec enum-known-found enum-known-found-2 returns add-row-sums row-sums-requires returns-2 returns-3)
+    (tie.spec (λ c. search needs) (λ c. search needs) (λ c κs. search needs) returns add-row-sums row-sums-requires returns-2
+    returns-3)

@@ -1,7 +1,6 @@
 -- `cellprism::short::element` meets its contract: two words an element, the low one first.
 -- Assumes nothing.
 use mathlib.Core.Path.{ap₂, _∙_}
-use native.Mathlib.Omega.{arith}
 use Rattle.field.specs.Gf.{ofWords}
 use borrow.Author.Needs.{needs}
 use Rattle.cellprism.proofs.short.element.Statement.{statement}
@@ -13,11 +12,5 @@ returns c = c .of-words .ensures ∙ ap₂ ofWords (c .before .before .row-word 
 pub element-spec : {M : Type 1} → statement M
 element-spec =
     tie.close
-    (tie.spec
-    (λ c. search needs)
-    (λ c κs. search needs)
-    (λ c. search needs)
-    (λ c. search needs)
-    (λ c κs. search needs)
-    (λ c κs. search needs)
-    returns)
+    (tie.spec (λ c. search needs) (λ c κs. search needs) (λ c. search needs) (λ c. search needs) (λ c κs. search needs)
+    (λ c κs. search needs) returns)

@@ -1,44 +1,29 @@
--- `circuit::batch::build_circuit_batched` meets its contract: each way out peels off the questions before it; what the word is picks the arm.
+-- `circuit::batch::build_circuit_batched` meets its contract: each way out peels off the questions before it; what the
+-- word is picks the arm.
 -- Assumes nothing.
 use mathlib.Core.Path.{sym, ap, _∙_}
 use borrow.Author.Tests.{not-true, not-false}
-use Rattle.layout.specs.Questions.{passed, refused}
+use Rattle.circuit.specs.declared.batch.BatchWord.the-variants.{Refused as NoWord}
+use Rattle.base.specs.Laws.Tests.{passed, refused}
 use Rattle.circuit.specs.Batched.{inCycle, batched}
 use borrow.Author.Needs.{needs}
 use Rattle.circuit.proofs.batch.build_circuit_batched.Statement.{statement}
 use Rattle.circuit.proofs.batch.build_circuit_batched.Tie as tie
 
-is-allowed-requires : tie.Need-is-allowed-requires
-is-allowed-requires c κs = search needs
-
 returns : tie.Need-returns
 unfolding batched
-returns c = refused _ _ _ (sym (c .before .is-allowed .ensures) ∙ not-true _ (c .if1 .taken))
-
-is-clean-requires : tie.Need-is-clean-requires
-is-clean-requires c κs = search needs
+returns q =
+    let c = q .before in ap NoWord (q .refused .ensures) ∙ refused _ _ _ (sym (c .before .is-allowed .ensures) ∙ not-true _ (c .if1 .taken))
 
 returns-2 : tie.Need-returns-2
 unfolding batched
-returns-2 c =
-    refused _ _ _ (sym (c .before .is-clean .ensures) ∙ not-true _ (c .if2 .taken))
+returns-2 q =
+    let c = q .before in ap NoWord (q .refused2 .ensures) ∙ refused _ _ _ (sym (c .before .is-clean .ensures) ∙ not-true _ (c .if2 .taken))
     ∙ passed _ _ _ (sym (c .before .before .before .is-allowed .ensures) ∙ not-false _ (c .before .before .if1 .left))
-
-read-word-requires : tie.Need-read-word-requires
-read-word-requires c κs = search needs
-
-enum-known-word : tie.Need-enum-known-word
-enum-known-word c = search needs
 
 row-in-cycle-requires : tie.Need-row-in-cycle-requires
 row-in-cycle-requires c κs =
     let b = c .before .before .before .before .before .before in sym (b .before .is-allowed .ensures) ∙ not-false _ (b .if1 .left)
-
-enum-known-word-2 : tie.Need-enum-known-word-2
-enum-known-word-2 c = search needs
-
-term-in-cycle-requires : tie.Need-term-in-cycle-requires
-term-in-cycle-requires c κs = search needs
 
 returns-3 : tie.Need-returns-3
 unfolding batched
@@ -61,15 +46,6 @@ returns-4 c =
 pub build-circuit-batched-spec : {M : Type 1} → statement M
 build-circuit-batched-spec =
     tie.close
-    (tie.spec
-    is-allowed-requires
-    returns
-    is-clean-requires
-    returns-2
-    read-word-requires
-    enum-known-word
-    row-in-cycle-requires
-    enum-known-word-2
-    term-in-cycle-requires
-    returns-3
+    (tie.spec (λ c κs. search needs) (λ c κs. search needs) returns (λ c κs. search needs) (λ c κs. search needs) returns-2
+    (λ c κs. search needs) (λ c. search needs) row-in-cycle-requires (λ c. search needs) (λ c κs. search needs) returns-3
     returns-4)

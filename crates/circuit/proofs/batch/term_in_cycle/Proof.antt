@@ -6,15 +6,6 @@ use borrow.Author.Needs.{needs}
 use Rattle.circuit.proofs.batch.term_in_cycle.Statement.{statement}
 use Rattle.circuit.proofs.batch.term_in_cycle.Tie as tie
 
-map-z-col-requires : tie.Need-map-z-col-requires
-map-z-col-requires c κs = search needs
-
-enum-known-place : tie.Need-enum-known-place
-enum-known-place c = search needs
-
-enum-known-place-2 : tie.Need-enum-known-place-2
-enum-known-place-2 c = search needs
-
 returns : tie.Need-returns
 returns c =
     let a = c .before .before .before .before .args in
@@ -26,5 +17,4 @@ returns-2 c =
     ap (termOn (a .side) (a .coefficient)) (sym (c .before .place2 .given .1) ∙ c .before .before .before .map-z-col .ensures)
 
 pub term-in-cycle-spec : {M : Type 1} → statement M
-term-in-cycle-spec =
-    tie.close (tie.spec map-z-col-requires enum-known-place enum-known-place-2 returns returns-2)
+term-in-cycle-spec = tie.close (tie.spec (λ c κs. search needs) (λ c. search needs) (λ c. search needs) returns returns-2)

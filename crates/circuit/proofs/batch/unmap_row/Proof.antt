@@ -6,24 +6,20 @@ use borrow.Author.Needs.{needs}
 use borrow.Author.Tests.{le-ltb, not-true, not-false}
 use Prim.Native.Nat.{ℕ, _*_, _/_, _%_}
 use native.Mathlib.Omega.{arith}
-use Rattle.layout.specs.Questions.{passed, refused}
+use Rattle.circuit.specs.declared.batch.CycleRowAnswer.the-variants.{Refused as NoRow}
+use Rattle.base.specs.Laws.Tests.{passed, refused}
 use Rattle.circuit.specs.declared.batch.CycleRowAnswer.the-variants.{At}
 use Rattle.circuit.specs.Found.{rowsACycle}
-use Rattle.circuit.specs.Search.{rows-some}
+use Rattle.circuit.specs.Laws.Search.{rows-some}
 use Rattle.circuit.specs.Batched.{unmappedRow}
-use Rattle.circuit.specs.BatchRows.{row-of, batch-rows-at-most}
+use Rattle.circuit.specs.Laws.BatchRows.{row-of, batch-rows-at-most}
 use Rattle.circuit.proofs.batch.unmap_row.Statement.{statement}
 use Rattle.circuit.proofs.batch.unmap_row.Tie as tie
 
-is-allowed-requires : tie.Need-is-allowed-requires
-is-allowed-requires c κs = search needs
-
 returns : tie.Need-returns
 unfolding unmappedRow
-returns c = refused _ _ _ (sym (c .before .is-allowed .ensures) ∙ not-true _ (c .if1 .taken))
-
-rows-a-cycle-requires : tie.Need-rows-a-cycle-requires
-rows-a-cycle-requires c κs = search needs
+returns q =
+    let c = q .before in ap NoRow (q .refused .ensures) ∙ refused _ _ _ (sym (c .before .is-allowed .ensures) ∙ not-true _ (c .if1 .taken))
 
 mul-if2 : tie.Need-mul-if2
 mul-if2 c =
@@ -33,10 +29,12 @@ mul-if2 c =
 
 returns-2 : tie.Need-returns-2
 unfolding unmappedRow
-returns-2 c =
-    let a = c .before .before .before .before .args in let e = ap (λ (n : ℕ). n * a .cpi) (c .before .rows-a-cycle .ensures) in
+returns-2 q =
+    let c = q .before in ap NoRow (q .refused2 .ensures)
+    ∙ (let a = c .before .before .before .before .args in
+    let e = ap (λ (n : ℕ). n * a .cpi) (c .before .rows-a-cycle .ensures) in
     refused _ _ _ (le-ltb (a .batch-row) (rowsACycle (a .relation) * a .cpi) (omega (arith, e, c .if2 .taken)))
-    ∙ passed _ _ _ (sym (c .before .before .before .is-allowed .ensures) ∙ not-false _ (c .before .before .if1 .left))
+    ∙ passed _ _ _ (sym (c .before .before .before .is-allowed .ensures) ∙ not-false _ (c .before .before .if1 .left)))
 
 div-t8 : tie.Need-div-t8
 div-t8 c = omega (arith, c .before .rows-a-cycle .ensures, rows-some (c .before .before .before .before .args .relation))
@@ -54,4 +52,5 @@ returns-3 c =
 pub unmap-row-spec : {M : Type 1} → statement M
 unmap-row-spec =
     tie.close
-    (tie.spec is-allowed-requires returns rows-a-cycle-requires mul-if2 returns-2 div-t8 rem-t10 returns-3)
+    (tie.spec (λ c κs. search needs) (λ c κs. search needs) returns (λ c κs. search needs) mul-if2 (λ c κs. search needs)
+    returns-2 div-t8 rem-t10 returns-3)

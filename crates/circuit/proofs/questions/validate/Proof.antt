@@ -9,7 +9,8 @@ use borrow.Author.Needs.{needs}
 use borrow.Author.Tests.{le-leb, lt-leb}
 use lib.ListN.{length, getD, drop, drop-of-length-le}
 use lib.Seq.{drop-cons}
-use Rattle.layout.specs.Questions.{passed, refused}
+use Rattle.layout.specs.declared.Asked.the-variants.{No}
+use Rattle.base.specs.Laws.Tests.{passed, refused}
 use Rattle.circuit.specs.declared.questions.Progress.{Progress}
 use Rattle.circuit.specs.Valid.{afterWord, onward, validFrom, validated}
 use Rattle.circuit.proofs.questions.validate.Statement.{statement}
@@ -34,37 +35,18 @@ abbrev μ-loop : tie.MeasureT-loop
 
 returns : tie.Need-returns Inv-loop μ-loop
 unfolding validated
-returns c = refused _ _ _ (lt-leb _ _ (c .if1 .taken))
+returns q =
+    let c = q .before in ap No (q .refused .ensures) ∙ refused _ _ _ (lt-leb _ _ (c .if1 .taken))
 
 loop-holds : tie.Need-loop-holds Inv-loop μ-loop
 loop-holds c = (omega arith, refl)
 
-mul-after-word : tie.Need-mul-after-word Inv-loop μ-loop
-mul-after-word c = search needs
-
-shared-slice-read-after-word : tie.Need-shared-slice-read-after-word Inv-loop μ-loop
-shared-slice-read-after-word c = search needs
-
-after-word-requires : tie.Need-after-word-requires Inv-loop μ-loop
-after-word-requires c κs = search needs
-
-enum-known-l : tie.Need-enum-known-l Inv-loop μ-loop
-enum-known-l c = search needs
-
-enum-known-number : tie.Need-enum-known-number Inv-loop μ-loop
-enum-known-number c = search needs
-
 returns-2 : tie.Need-returns-2 Inv-loop μ-loop
 returns-2 c =
     let b = c .before .before .before in let t = b .before .before .before .loop in
-    sym (turn _ (t .i) (t .low) (t .kind) _ (b .before .before .loop-test .taken) (sym (c .before .number .given .1) ∙ b .after-word .ensures))
+    sym (turn _ (t .i) (t .low) (t .kind) _ (b .before .before .loop-test .taken)
+    (sym (c .before .number .given .1) ∙ b .after-word .ensures))
     ∙ t .inv .1 ∙ fits _ (b .before .before .before .before .if1 .left)
-
-add-i : tie.Need-add-i Inv-loop μ-loop
-add-i c = search needs
-
-loop-less : tie.Need-loop-less Inv-loop μ-loop
-loop-less c = search needs
 
 loop-again : tie.Need-loop-again Inv-loop μ-loop
 loop-again c =
@@ -84,18 +66,6 @@ returns-3 c =
 pub validate-spec : {M : Type 1} → statement M
 validate-spec =
     tie.close
-    (tie.spec
-    Inv-loop
-    μ-loop
-    returns
-    loop-holds
-    mul-after-word
-    shared-slice-read-after-word
-    after-word-requires
-    enum-known-l
-    enum-known-number
-    returns-2
-    add-i
-    loop-less
-    loop-again
+    (tie.spec Inv-loop μ-loop (λ c κs. search needs) returns loop-holds (λ c. search needs) (λ c. search needs)
+    (λ c κs. search needs) (λ c. search needs) (λ c. search needs) returns-2 (λ c. search needs) (λ c. search needs) loop-again
     returns-3)

@@ -5,11 +5,5 @@ use borrow.Author.Needs.{needs}
 use Rattle.circuit.proofs.reader.position_after.Statement.{statement}
 use Rattle.circuit.proofs.reader.position_after.Tie as tie
 
-returns : tie.Need-returns
-returns c = search needs
-
-returns-2 : tie.Need-returns-2
-returns-2 c = search needs
-
 pub position-after-spec : {M : Type 1} → statement M
-position-after-spec = tie.close (tie.spec (λ c. search needs) (λ c. search needs) returns returns-2)
+position-after-spec = tie.close (tie.spec (λ c. search needs) (λ c. search needs) (λ c. search needs) (λ c. search needs))

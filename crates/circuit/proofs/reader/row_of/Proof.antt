@@ -6,17 +6,8 @@ use Rattle.circuit.specs.Reader.{rowOf}
 use Rattle.circuit.proofs.reader.row_of.Statement.{statement}
 use Rattle.circuit.proofs.reader.row_of.Tie as tie
 
-enum-told : tie.Need-enum-told
-enum-told c = search needs
-
-enum-known-asked : tie.Need-enum-known-asked
-enum-known-asked c = search needs
-
-returns : tie.Need-returns
-returns c = search needs
-
 returns-2 : tie.Need-returns-2
 returns-2 c = ap (λ a. rowOf a (c .before .before .before .args .place)) (sym (c .before .asked .given .1))
 
 pub row-of-spec : {M : Type 1} → statement M
-row-of-spec = tie.close (tie.spec enum-told enum-known-asked returns returns-2)
+row-of-spec = tie.close (tie.spec (λ c. search needs) (λ c. search needs) (λ c. search needs) returns-2)

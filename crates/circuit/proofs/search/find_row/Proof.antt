@@ -7,14 +7,14 @@ use Prim.Native.Nat.{ℕ, _+_, _<_, _≤_}
 use native.Mathlib.Omega.{arith}
 use borrow.Author.Needs.{needs}
 use borrow.Author.Tests.{lt-ltb, le-ltb}
-use denote.Ref.{now}
 use lib.ListN.{length, drop}
-use Rattle.layout.specs.Questions.{no, passed, refused}
+use Rattle.layout.specs.Questions.{no}
+use Rattle.base.specs.Laws.Tests.{passed, refused}
 use Rattle.circuit.specs.declared.Relation.{Relation}
 use Rattle.circuit.specs.declared.search.Found.the-variants.{At, Refused}
 use Rattle.circuit.specs.Words.{isMark, markWord}
 use Rattle.circuit.specs.Found.{rowsACycle, until, isWord, rowAt, found}
-use Rattle.circuit.specs.Search.{rows-at-most}
+use Rattle.circuit.specs.Laws.Search.{rows-at-most}
 use Rattle.circuit.proofs.search.find_row.Statement.{statement}
 use Rattle.circuit.proofs.search.find_row.Tie as tie
 
@@ -34,8 +34,11 @@ module _ (ws : List ℕ) (rel : Relation) (n limit start m : ℕ) (rows : limit 
   unfolding rowAt
   past h = refused _ _ _ (le-ltb start (length ws) h) ∙ there
 
-rows-a-cycle-requires : tie.Need-rows-a-cycle-requires
-rows-a-cycle-requires c κs = search needs
+returns : tie.Need-returns
+unfolding found
+returns q =
+    let c = q .before in let a = c .before .before .before .args in let e = c .before .rows-a-cycle .ensures in
+    ap Refused (q .refused .ensures) ∙ refused _ _ _ (le-ltb (a .row) (rowsACycle (a .relation)) (omega arith))
 
 cast-mark-word : tie.Need-cast-mark-word
 cast-mark-word c =
@@ -45,42 +48,20 @@ mark-word-requires : tie.Need-mark-word-requires
 mark-word-requires c κs =
     let e = c .before .rows-a-cycle .ensures in omega (arith, rows-at-most (c .before .before .before .args .relation))
 
-index-of-requires : tie.Need-index-of-requires
-index-of-requires c κs = search needs
-
-add-next-mark : tie.Need-add-next-mark
-add-next-mark c = search needs
-
-next-mark-requires : tie.Need-next-mark-requires
-next-mark-requires c κs = search needs
-
-returns : tie.Need-returns
-returns c =
-    let i = c .before .before in let m = i .before in let t = m .before in
-    inside _ _ _ _ _ _ (t .before .rows-a-cycle .ensures) (m .mark-word .ensures) (i .index-of .ensures) (t .if1 .taken) _
-    (c .before .if2 .taken) (c .next-mark .ensures)
-
 returns-2 : tie.Need-returns-2
-returns-2 c =
-    let i = c .before in let m = i .before in let t = m .before in
-    past _ _ _ _ _ _ (t .before .rows-a-cycle .ensures) (m .mark-word .ensures) (i .index-of .ensures) (t .if1 .taken) (c .if2 .left)
+returns-2 q =
+    let c = q .before in let i = c .before in let m = i .before in let t = m .before in
+    ap Refused (q .refused2 .ensures)
+    ∙ past _ _ _ _ _ _ (t .before .rows-a-cycle .ensures) (m .mark-word .ensures) (i .index-of .ensures) (t .if1 .left) (c .if2 .taken)
 
 returns-3 : tie.Need-returns-3
-unfolding found
 returns-3 c =
-    let a = c .before .before .before .args in let e = c .before .rows-a-cycle .ensures in
-    refused _ _ _ (le-ltb (a .row) (rowsACycle (a .relation)) (omega arith))
+    let i = c .before .before in let m = i .before in let t = m .before in
+    inside _ _ _ _ _ _ (t .before .rows-a-cycle .ensures) (m .mark-word .ensures) (i .index-of .ensures) (t .if1 .left) _
+    (c .before .if2 .left) (c .next-mark .ensures)
 
 pub find-row-spec : {M : Type 1} → statement M
 find-row-spec =
     tie.close
-    (tie.spec
-    rows-a-cycle-requires
-    cast-mark-word
-    mark-word-requires
-    index-of-requires
-    add-next-mark
-    next-mark-requires
-    returns
-    returns-2
-    returns-3)
+    (tie.spec (λ c κs. search needs) (λ c κs. search needs) returns cast-mark-word mark-word-requires (λ c κs. search needs)
+    (λ c κs. search needs) returns-2 (λ c. search needs) (λ c κs. search needs) returns-3)

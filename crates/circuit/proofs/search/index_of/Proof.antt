@@ -1,6 +1,6 @@
 -- `circuit::search::index_of` meets its contract: the count from here is the count asked for, at every turn.
 -- Assumes nothing.
-use mathlib.Core.Path.{_≡_, refl, sym, _∙_}
+use mathlib.Core.Path.{_≡_, sym, _∙_}
 use Prim.Native.Nat.{_+_, _≤_, _-_}
 use native.Mathlib.Nat.{zero-add}
 use native.Mathlib.Omega.{arith}
@@ -8,7 +8,7 @@ use borrow.Author.Needs.{needs}
 use borrow.Author.Tests.{eq-eqb, ne-eqb}
 use lib.ListN.{length, drop}
 use Rattle.circuit.specs.Found.{until, isWord}
-use Rattle.circuit.specs.Search.{stops, goes, ends}
+use Rattle.circuit.specs.Laws.Search.{stops, goes, ends}
 use Rattle.circuit.proofs.search.index_of.Statement.{statement}
 use Rattle.circuit.proofs.search.index_of.Tie as tie
 
@@ -21,27 +21,19 @@ abbrev μ-loop : tie.MeasureT-loop
 loop-holds : tie.Need-loop-holds Inv-loop μ-loop
 loop-holds c = (omega arith, zero-add _)
 
-mul-if1 : tie.Need-mul-if1 Inv-loop μ-loop
-mul-if1 c = search needs
-
-shared-slice-read-if1 : tie.Need-shared-slice-read-if1 Inv-loop μ-loop
-shared-slice-read-if1 c = search needs
-
 returns : tie.Need-returns Inv-loop μ-loop
 returns c =
     let t = c .before .before .before .loop in
-    sym (stops (isWord (c .before .before .before .before .args .w)) _ (t .i) (c .before .before .loop-test .taken) (eq-eqb _ _ (c .if1 .taken))) ∙ t .inv .1
-
-add-i : tie.Need-add-i Inv-loop μ-loop
-add-i c = search needs
-
-loop-less : tie.Need-loop-less Inv-loop μ-loop
-loop-less c = search needs
+    sym (stops (isWord (c .before .before .before .before .args .w)) _ (t .i) (c .before .before .loop-test .taken)
+    (eq-eqb _ _ (c .if1 .taken))) ∙ t .inv .1
 
 loop-again : tie.Need-loop-again Inv-loop μ-loop
 loop-again c =
-    let t = c .before .before .before .loop in
-    (omega arith, sym (goes (isWord (c .before .before .before .before .args .w)) _ (t .i) (c .before .before .loop-test .taken) (ne-eqb _ _ (c .if1 .left))) ∙ t .inv .1)
+    let t = c .before .before .before .loop in (
+      omega arith,
+      sym (goes (isWord (c .before .before .before .before .args .w)) _ (t .i) (c .before .before .loop-test .taken)
+          (ne-eqb _ _ (c .if1 .left))) ∙ t .inv .1,
+    )
 
 returns-2 : tie.Need-returns-2 Inv-loop μ-loop
 returns-2 c = let t = c .before .loop in sym (ends (isWord (c .before .before .args .w)) _ (t .i) (c .loop-test .left)) ∙ t .inv .1
@@ -49,4 +41,5 @@ returns-2 c = let t = c .before .loop in sym (ends (isWord (c .before .before .a
 pub index-of-spec : {M : Type 1} → statement M
 index-of-spec =
     tie.close
-    (tie.spec Inv-loop μ-loop loop-holds mul-if1 shared-slice-read-if1 returns add-i loop-less loop-again returns-2)
+    (tie.spec Inv-loop μ-loop loop-holds (λ c. search needs) (λ c. search needs) returns (λ c. search needs) (λ c. search needs)
+    loop-again returns-2)

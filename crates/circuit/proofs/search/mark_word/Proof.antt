@@ -6,18 +6,6 @@ use Rattle.circuit.specs.Words.{markWord}
 use Rattle.circuit.proofs.search.mark_word.Statement.{statement}
 use Rattle.circuit.proofs.search.mark_word.Tie as tie
 
-enum-told : tie.Need-enum-told
-enum-told c = search needs
-
-add-result : tie.Need-add-result
-add-result c = search needs
-
-enum-told-2 : tie.Need-enum-told-2
-enum-told-2 c = search needs
-
-add-result-2 : tie.Need-add-result-2
-add-result-2 c = search needs
-
 returns : tie.Need-returns
 returns c = sym (ap (λ r. markWord r (c .before .before .args .row)) (c .enum-told .given .1))
 
@@ -25,4 +13,6 @@ returns-2 : tie.Need-returns-2
 returns-2 c = sym (ap (λ r. markWord r (c .before .before .args .row)) (c .enum-told2 .given .1))
 
 pub mark-word-spec : {M : Type 1} → statement M
-mark-word-spec = tie.close (tie.spec enum-told add-result enum-told-2 add-result-2 returns returns-2)
+mark-word-spec =
+    tie.close
+    (tie.spec (λ c. search needs) (λ c. search needs) (λ c. search needs) (λ c. search needs) returns returns-2)

@@ -8,7 +8,7 @@ use borrow.Author.Tests.{lt-ltb, le-ltb}
 use lib.ListN.{length, drop}
 use Rattle.circuit.specs.Words.{isMark}
 use Rattle.circuit.specs.Found.{until}
-use Rattle.circuit.specs.Search.{stops, goes, ends}
+use Rattle.circuit.specs.Laws.Search.{stops, goes, ends}
 use Rattle.circuit.proofs.search.next_mark.Statement.{statement}
 use Rattle.circuit.proofs.search.next_mark.Tie as tie
 
@@ -21,22 +21,10 @@ abbrev μ-loop : tie.MeasureT-loop
 loop-holds : tie.Need-loop-holds Inv-loop μ-loop
 loop-holds c = (c .pre, refl)
 
-mul-if1 : tie.Need-mul-if1 Inv-loop μ-loop
-mul-if1 c = search needs
-
-shared-slice-read-if1 : tie.Need-shared-slice-read-if1 Inv-loop μ-loop
-shared-slice-read-if1 c = search needs
-
 returns : tie.Need-returns Inv-loop μ-loop
 returns c =
     let t = c .before .before .before .loop in
     sym (stops isMark _ (t .k) (c .before .before .loop-test .taken) (lt-ltb _ _ (c .if1 .taken))) ∙ t .inv .1
-
-add-k : tie.Need-add-k Inv-loop μ-loop
-add-k c = search needs
-
-loop-less : tie.Need-loop-less Inv-loop μ-loop
-loop-less c = search needs
 
 loop-again : tie.Need-loop-again Inv-loop μ-loop
 loop-again c =
@@ -49,4 +37,5 @@ returns-2 c = let t = c .before .loop in sym (ends isMark _ (t .k) (c .loop-test
 pub next-mark-spec : {M : Type 1} → statement M
 next-mark-spec =
     tie.close
-    (tie.spec Inv-loop μ-loop loop-holds mul-if1 shared-slice-read-if1 returns add-k loop-less loop-again returns-2)
+    (tie.spec Inv-loop μ-loop loop-holds (λ c. search needs) (λ c. search needs) returns (λ c. search needs) (λ c. search needs)
+    loop-again returns-2)

@@ -13,18 +13,8 @@ returns c =
     c .words-between .ensures
     ∙ ap (λ f. partOf f (now (b .before .before .before .args .listing))) (sym (b .place .given .1))
 
-returns-2 : tie.Need-returns-2
-returns-2 c = search needs
-
 pub part-at-spec : {M : Type 1} → statement M
 part-at-spec =
     tie.close
-    (tie.spec
-    (λ c. search needs)
-    (λ c κs. search needs)
-    (λ c. search needs)
-    (λ c. search needs)
-    (λ c. search needs)
-    (λ c. search needs)
-    returns
-    returns-2)
+    (tie.spec (λ c. search needs) (λ c κs. search needs) (λ c. search needs) (λ c. search needs) (λ c. search needs)
+    (λ c. search needs) returns (λ c. search needs))

@@ -2,7 +2,7 @@
 -- Assumes nothing.
 use mathlib.Core.Path.{_∙_}
 use borrow.Author.Tests.{eq-eqb, ne-eqb, lt-ltb, le-ltb}
-use Rattle.layout.specs.Questions.{passed, refused}
+use Rattle.base.specs.Laws.Tests.{passed, refused}
 use Rattle.circuit.specs.Words.{cleanOf}
 use Rattle.circuit.proofs.words.is_clean.Statement.{statement}
 use Rattle.circuit.proofs.words.is_clean.Tie as tie

@@ -1,7 +1,7 @@
 -- `circuit::words::relation_of` meets its contract: each way out is the case that bit 29 picks.
 -- Assumes nothing.
 use borrow.Author.Tests.{eq-eqb, ne-eqb}
-use Rattle.layout.specs.Questions.{passed, refused}
+use Rattle.base.specs.Laws.Tests.{passed, refused}
 use Rattle.circuit.proofs.words.relation_of.Statement.{statement}
 use Rattle.circuit.proofs.words.relation_of.Tie as tie
 

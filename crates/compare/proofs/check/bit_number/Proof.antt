@@ -12,16 +12,9 @@ refusal c = c .refused-at .ensures ∙ sym (ap bitNumber (c .before .before .ans
 pub bit-number-spec : {M : Type 1} → statement M
 bit-number-spec =
     tie.close
-    (tie.spec
-    (λ c. search needs)
-    (λ c. search needs)
+    (tie.spec (λ c. search needs) (λ c. search needs) (λ c. omega (arith, ap bitNumber (c .before .answer .given .1)))
     (λ c. omega (arith, ap bitNumber (c .before .answer .given .1)))
     (λ c. omega (arith, ap bitNumber (c .before .answer .given .1)))
     (λ c. omega (arith, ap bitNumber (c .before .answer .given .1)))
-    (λ c. omega (arith, ap bitNumber (c .before .answer .given .1)))
-    (λ c. omega (arith, ap bitNumber (c .before .answer .given .1)))
-    (λ c. search needs)
-    (λ c κs. search needs)
-    (λ c. search needs)
-    (λ c. omega (arith, ap bitNumber (c .before .answer .given .1)))
-    refusal)
+    (λ c. omega (arith, ap bitNumber (c .before .answer .given .1))) (λ c. search needs) (λ c κs. search needs)
+    (λ c. search needs) (λ c. omega (arith, ap bitNumber (c .before .answer .given .1))) refusal)

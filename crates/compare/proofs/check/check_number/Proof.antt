@@ -11,10 +11,4 @@ refusal c = c .refused-at .ensures ∙ sym (ap checkNumber (c .before .before .a
 pub check-number-spec : {M : Type 1} → statement M
 check-number-spec =
     tie.close
-    (tie.spec
-    (λ c. search needs)
-    (λ c κs. search needs)
-    (λ c. search needs)
-    (λ c κs. search needs)
-    (λ c. search needs)
-    refusal)
+    (tie.spec (λ c. search needs) (λ c κs. search needs) (λ c. search needs) (λ c κs. search needs) (λ c. search needs) refusal)

@@ -3,7 +3,7 @@ use mathlib.Core.Path.{ap, _∙_}
 use borrow.Author.Needs.{needs}
 use borrow.Author.Tests.{lt-ltb, le-ltb}
 use denote.Ref.{now}
-use Rattle.layout.specs.Questions.{passed, refused}
+use Rattle.base.specs.Laws.Tests.{passed, refused}
 use Rattle.verdict.specs.Apply.{applied}
 use Rattle.compare.specs.Numbers.{sumsReply}
 use Rattle.compare.proofs.check.compare_apply.Statement.{statement}
@@ -18,7 +18,8 @@ sums c =
     let a = i .before .before .before .before .args in
     g .put-sums .ensures
     ∙ ap (λ r. sumsReply r (now (a .out)))
-    (p .apply .ensures ∙ ap (λ rel. applied (a .cpi) (now (a .listing)) (now (a .batch)) rel (a .row) (a .cycle)) (p .before .chosen-relation .ensures))
+    (p .apply .ensures ∙ ap (λ rel. applied (a .cpi) (now (a .listing)) (now (a .batch)) rel (a .row) (a .cycle))
+    (p .before .chosen-relation .ensures))
     ∙ refused _ _ _ (le-ltb _ _ (i .if1 .left))
 
 pub compare-apply-spec : {M : Type 1} → statement M

@@ -9,13 +9,15 @@ use borrow.Author.Needs.{needs}
 use borrow.Author.Tests.{ltb-true}
 use lib.Dec.{eqb, ltb}
 use lib.ListN.{length}
-use Rattle.layout.specs.Batch.{allowed, unmapped}
-use Rattle.layout.specs.Questions.{no}
-use Rattle.layout.specs.Sizes.{allowed-range}
+use Rattle.layout.specs.Batch.{allowed, unmapped, batchWords, batchAsked}
+use Rattle.layout.specs.Questions.{no, ifYes}
+use Rattle.layout.specs.Laws.Sizes.{allowed-range}
+use Rattle.layout.specs.declared.Asked.the-variants.{Yes, No}
 use Rattle.layout.specs.declared.CycleColumnAnswer.the-variants.{At, Refused as NotMapped}
 use Rattle.verdict.specs.declared.bits.BitAnswer.{BitAnswer}
 use Rattle.verdict.specs.declared.bits.BitAnswer.the-variants.{AllBits, Refused}
-use Rattle.verdict.specs.Bits.{firstFrom, aboveOne, placed, bitTested}
+use Rattle.base.specs.Tests.{firstFrom}
+use Rattle.verdict.specs.Bits.{aboveOne, placed, bitTested}
 use Rattle.compare.specs.Numbers.{bitNumber}
 use Rattle.compare.proofs.check.compare_bit_test.Statement.{statement}
 use Rattle.compare.proofs.check.compare_bit_test.Tie as tie
@@ -24,8 +26,8 @@ abbrev Fits : BitAnswer → Type 0
 Fits a = bitNumber a < 2 ^ 64
 
 fits : (cpi : ℕ) (batch : List ℕ) → Fits (bitTested cpi batch)
-unfolding bitTested unmapped
-fits cpi batch = by-tests (allowed cpi) (eqb (length batch) (8192 * cpi)) (ltb at (2048 * cpi)) refl refl
+unfolding bitTested batchAsked unmapped
+fits cpi batch = by-tests (allowed cpi) (eqb (length batch) (batchWords cpi)) (ltb at (2048 * cpi)) refl refl
   where
     at : ℕ
     at = firstFrom (aboveOne batch) 0 (2048 * cpi)
@@ -33,11 +35,8 @@ fits cpi batch = by-tests (allowed cpi) (eqb (length batch) (8192 * cpi)) (ltb a
     by-tests :
         (a q t : Bool) → allowed cpi ≡ a → ltb at (2048 * cpi) ≡ t
         → Fits
-        (cond a
-        (cond q
-        (cond t (placed at (cond a (cond t (At (at / cpi) (at % cpi)) (NotMapped (no 14 0))) (NotMapped (no 1 0)))) AllBits)
-        (Refused (no 2 0)))
-        (Refused (no 1 0)))
+        (ifYes Refused (cond a (cond q Yes (No (no 2 0))) (No (no 1 0)))
+        (cond t (placed at (cond a (cond t (At (at / cpi) (at % cpi)) (NotMapped (no 14 0))) (NotMapped (no 1 0)))) AllBits))
     by-tests true true true ok e =
         let range = allowed-range cpi ok in let below = ltb-true at (2048 * cpi) e in
         omega (arith, range, below, div-lt-iff-lt-mul (range .0) .1 below, mod-lt at (range .0))

@@ -14,16 +14,11 @@ sums c =
 refusal : tie.Need-returns-2
 refusal c =
     let k = c .before .before in
-    ap₂ reply (c .refused-at .ensures) refl ∙ sym (ap (λ a. sumsReply a (now (k .before .before .before .args .out))) (k .answer2 .given .1))
+    ap₂ reply (c .refused-at .ensures) refl ∙ sym (ap (λ a. sumsReply a (now (k .before .before .before .args .out)))
+    (k .answer2 .given .1))
 
 pub put-sums-spec : {M : Type 1} → statement M
 put-sums-spec =
     tie.close
-    (tie.spec
-    (λ c. search needs)
-    (λ c κs. search needs)
-    (λ c. search needs)
-    (λ c κs. search needs)
-    (λ c. search needs)
-    sums
+    (tie.spec (λ c. search needs) (λ c κs. search needs) (λ c. search needs) (λ c κs. search needs) (λ c. search needs) sums
     refusal)

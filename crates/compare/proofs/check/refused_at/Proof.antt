@@ -9,4 +9,6 @@ fits : tie.Need-add-result-2
 fits c = omega (arith, c .kept-place .ensures, place-small (c .before .before .args .r .place))
 
 pub refused-at-spec : {M : Type 1} → statement M
-refused-at-spec = tie.close (tie.spec (λ c. search needs) (λ c. search needs) (λ c. search needs) (λ c κs. search needs) fits (λ c. search needs))
+refused-at-spec =
+    tie.close
+    (tie.spec (λ c. search needs) (λ c. search needs) (λ c. search needs) (λ c κs. search needs) fits (λ c. search needs))

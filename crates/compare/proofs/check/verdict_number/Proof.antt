@@ -18,11 +18,7 @@ fits (Failed Fld row rows) = omega arith
 pub verdict-number-spec : {M : Type 1} → statement M
 verdict-number-spec =
     tie.close
-    (tie.spec
-    (λ c. search needs)
-    (λ c. search needs)
-    (λ c κs. search needs)
-    (λ c. search needs)
+    (tie.spec (λ c. search needs) (λ c. search needs) (λ c κs. search needs) (λ c. search needs)
     (λ c. let k = c .before .before in omega (arith, c .failed-in .ensures, ap verdictNumber (k .v2 .given .1), fits (k .before .before .args .v)))
     (λ c. let k = c .before .before in omega (arith, c .failed-in .ensures, ap verdictNumber (k .v2 .given .1), fits (k .before .before .args .v)))
     (λ c. sym (ap verdictNumber (c .before .v .given .1)))

@@ -20,25 +20,16 @@ module _ (s : Sums) (p q r t u v : ℕ) (ep : p ≡ low (s .a)) (eq : q ≡ high
 
 sums : tie.Need-returns
 sums c =
-    let l = c .before in let h = l .before in let k = h .before in let i = k .before in let j = i .before in let b = j .before .before .before .before .before in
-    six-words (b .args .s) _ _ _ _ _ _ (j .low .ensures) (i .high .ensures) (k .low2 .ensures) (h .high2 .ensures) (l .low3 .ensures) (c .high3 .ensures)
+    let l = c .before in let h = l .before in let k = h .before in let i = k .before in let j = i .before in
+    let b = j .before .before .before .before .before in
+    six-words (b .args .s) _ _ _ _ _ _ (j .low .ensures) (i .high .ensures) (k .low2 .ensures) (h .high2 .ensures) (l .low3 .ensures)
+    (c .high3 .ensures)
     (now (b .args .out)) (b .pre)
 
 pub write-sums-spec : {M : Type 1} → statement M
 write-sums-spec =
     tie.close
-    (tie.spec
-    (λ c κs. search needs)
-    (λ c. search needs)
-    (λ c κs. search needs)
-    (λ c. simp length-set (omega arith))
-    (λ c κs. search needs)
-    (λ c. simp length-set (omega arith))
-    (λ c κs. search needs)
-    (λ c. simp length-set (omega arith))
-    (λ c κs. search needs)
-    (λ c. simp length-set (omega arith))
-    (λ c κs. search needs)
-    (λ c. search needs)
-    (λ c. search needs)
+    (tie.spec (λ c κs. search needs) (λ c. search needs) (λ c κs. search needs) (λ c. simp length-set (omega arith))
+    (λ c κs. search needs) (λ c. simp length-set (omega arith)) (λ c κs. search needs) (λ c. simp length-set (omega arith))
+    (λ c κs. search needs) (λ c. simp length-set (omega arith)) (λ c κs. search needs) (λ c. search needs) (λ c. search needs)
     sums)

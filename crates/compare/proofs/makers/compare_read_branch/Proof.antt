@@ -16,4 +16,5 @@ returns-3 c = ap readingNumber (sym (c .enum-told3 .given .1) ∙ c .before .bef
 
 pub compare-read-branch-spec : {M : Type 1} → statement M
 compare-read-branch-spec =
-    tie.close (tie.spec (λ c κs. search needs) (λ c. search needs) (λ c. search needs) (λ c. search needs) returns returns-2 returns-3)
+    tie.close
+    (tie.spec (λ c κs. search needs) (λ c. search needs) (λ c. search needs) (λ c. search needs) returns returns-2 returns-3)

@@ -9,5 +9,4 @@ returns : tie.Need-returns
 returns c = ap₂ reply (c .packing-number .ensures) refl ∙ ap packReply (c .before .before .before .pack-named .ensures)
 
 pub compare-pack-named-spec : {M : Type 1} → statement M
-compare-pack-named-spec =
-    tie.close (tie.spec (λ c κs. search needs) (λ c κs. search needs) (λ c. search needs) returns)
+compare-pack-named-spec = tie.close (tie.spec (λ c κs. search needs) (λ c κs. search needs) (λ c. search needs) returns)

@@ -11,11 +11,5 @@ returns-3 c = c .refused-at .ensures ∙ sym (ap packingNumber (c .before .befor
 pub packing-number-spec : {M : Type 1} → statement M
 packing-number-spec =
     tie.close
-    (tie.spec
-    (λ c. search needs)
-    (λ c. search needs)
-    (λ c. search needs)
-    (λ c κs. search needs)
-    (λ c. search needs)
-    (λ c. search needs)
-    returns-3)
+    (tie.spec (λ c. search needs) (λ c. search needs) (λ c. search needs) (λ c κs. search needs) (λ c. search needs)
+    (λ c. search needs) returns-3)

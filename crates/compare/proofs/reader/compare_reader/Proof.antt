@@ -5,7 +5,7 @@ use borrow.Author.Needs.{needs}
 use borrow.Author.Tests.{lt-ltb, le-ltb}
 use denote.Ref.{now}
 use lib.ListN.{drop}
-use Rattle.layout.specs.Questions.{passed, refused}
+use Rattle.base.specs.Laws.Tests.{passed, refused}
 use Rattle.compare.specs.Numbers.{reply, askedNumber, twoRows, rowWords}
 use Rattle.compare.proofs.reader.compare_reader.Statement.{statement}
 use Rattle.compare.proofs.reader.compare_reader.Tie as tie
@@ -27,12 +27,5 @@ rows c =
 pub compare-reader-spec : {M : Type 1} → statement M
 compare-reader-spec =
     tie.close
-    (tie.spec
-    no-room
-    (λ c κs. search needs)
-    (λ c κs. search needs)
-    (λ c κs. search needs)
-    (λ c κs. search needs)
-    (λ c κs. search needs)
-    (λ c. search needs)
-    rows)
+    (tie.spec no-room (λ c κs. search needs) (λ c κs. search needs) (λ c κs. search needs) (λ c κs. search needs)
+    (λ c κs. search needs) (λ c. search needs) rows)

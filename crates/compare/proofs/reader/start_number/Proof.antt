@@ -9,4 +9,6 @@ refusal : tie.Need-returns-2
 refusal c = c .refused-at .ensures ∙ sym (ap startNumber (c .before .before .place2 .given .1))
 
 pub start-number-spec : {M : Type 1} → statement M
-start-number-spec = tie.close (tie.spec (λ c. search needs) (λ c. search needs) (λ c κs. search needs) (λ c. search needs) refusal)
+start-number-spec =
+    tie.close
+    (tie.spec (λ c. search needs) (λ c. search needs) (λ c κs. search needs) (λ c. search needs) refusal)

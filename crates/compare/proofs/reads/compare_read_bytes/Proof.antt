@@ -33,9 +33,6 @@ loop-again c =
     let l = c .before .before in
     (omega arith, one-more (l .before .before .args .bytes .now) (l .loop .i) (l .loop .all) (omega arith) ∙ l .loop .inv .1)
 
-wide-requires : tie.Need-wide-requires Inv-loop μ-loop
-wide-requires c κs = search needs
-
 returns : tie.Need-returns Inv-loop μ-loop
 returns c =
     let l = c .before .before in
@@ -44,4 +41,4 @@ returns c =
 pub compare-read-bytes-spec : {M : Type 1} → statement M
 compare-read-bytes-spec =
     tie.close
-    (tie.spec Inv-loop μ-loop loop-holds shared-slice-read-all add-i loop-less loop-again wide-requires returns)
+    (tie.spec Inv-loop μ-loop loop-holds shared-slice-read-all add-i loop-less loop-again (λ c κs. search needs) returns)

@@ -1,6 +1,6 @@
 -- The test picks the place.
 use borrow.Author.Tests.{eq-eqb, ne-eqb}
-use Rattle.layout.specs.Questions.{passed, refused}
+use Rattle.base.specs.Laws.Tests.{passed, refused}
 use Rattle.compare.proofs.search.chosen_place.Statement.{statement}
 use Rattle.compare.proofs.search.chosen_place.Tie as tie
 

@@ -28,15 +28,5 @@ name c = c .name-byte .ensures ∙ last-part _ (c .before .before .args .part) (
 pub compare-segment-spec : {M : Type 1} → statement M
 compare-segment-spec =
     tie.close
-    (tie.spec
-    (λ c κs. search needs)
-    (λ c. search needs)
-    (λ c κs. search needs)
-    (λ c κs. search needs)
-    (λ c. search needs)
-    (λ c κs. search needs)
-    (λ c. search needs)
-    (λ c κs. search needs)
-    start
-    length
-    name)
+    (tie.spec (λ c κs. search needs) (λ c. search needs) (λ c κs. search needs) (λ c κs. search needs) (λ c. search needs)
+    (λ c κs. search needs) (λ c. search needs) (λ c κs. search needs) start length name)

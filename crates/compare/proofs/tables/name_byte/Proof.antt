@@ -5,9 +5,9 @@ use native.Mathlib.Omega.{arith}
 use borrow.Author.Needs.{needs}
 use borrow.Author.Tests.{lt-ltb, le-ltb}
 use lib.ListN.{length, getD, List·getD-eq-default}
-use Rattle.layout.specs.Questions.{passed, refused}
+use Rattle.base.specs.Laws.Tests.{passed, refused}
 use Rattle.layout.specs.Segments.{segments, segmentNames}
-use Rattle.layout.specs.Lists.{joined}
+use Rattle.base.specs.Lists.{joined}
 use Rattle.compare.proofs.Entries.{inside}
 use Rattle.compare.proofs.tables.name_byte.Statement.{statement}
 use Rattle.compare.proofs.tables.name_byte.Tie as tie
@@ -34,12 +34,5 @@ byte c =
 pub name-byte-spec : {M : Type 1} → statement M
 name-byte-spec =
     tie.close
-    (tie.spec
-    past-name
-    past-segments
-    (λ c κs. search needs)
-    (λ c. search needs)
-    (λ c. search needs)
-    (λ c. search needs)
-    (λ c. search needs)
-    byte)
+    (tie.spec past-name past-segments (λ c κs. search needs) (λ c. search needs) (λ c. search needs) (λ c. search needs)
+    (λ c. search needs) byte)

@@ -1,7 +1,7 @@
 -- 1 stands for yes and 0 for no.
 use mathlib.Core.Path.{sym, _∙_}
 use borrow.Author.Needs.{needs}
-use Rattle.layout.specs.Questions.{passed, refused}
+use Rattle.base.specs.Laws.Tests.{passed, refused}
 use Rattle.compare.proofs.words.compare_is_clean.Statement.{statement}
 use Rattle.compare.proofs.words.compare_is_clean.Tie as tie
 

@@ -4,8 +4,8 @@ use mathlib.Core.Bool.{Bool, cond}
 use native.Mathlib.Omega.{arith}
 use borrow.Author.Needs.{needs}
 use Rattle.field.specs.declared.Gf128.{Gf128}
-use Rattle.field.specs.Gf.{zero, product}
-use Rattle.field.specs.Gf.Tests.{odd, isBit-true}
+use Rattle.field.specs.Gf.{zero, product, odd}
+use Rattle.field.specs.Gf.Tests.{isBit-true}
 use Rattle.field.proofs.Gf128.mul.Statement.{statement}
 use Rattle.field.proofs.Gf128.mul.Tie as tie
 use Rattle.field.specs.Gf.Bits.{bit-mul, mul-bit}
@@ -27,14 +27,5 @@ right-is-bit c =
 pub mul-spec : {M : Type 1} → statement M
 mul-spec =
     tie.close
-    (tie.spec
-    (λ c κs. search needs)
-    (λ c κs. search needs)
-    (λ c κs. search needs)
-    left-is-bit
-    (λ c κs. search needs)
-    (λ c κs. search needs)
-    (λ c κs. search needs)
-    right-is-bit
-    (λ c κs. search needs)
-    (λ c. search needs))
+    (tie.spec (λ c κs. search needs) (λ c κs. search needs) (λ c κs. search needs) left-is-bit (λ c κs. search needs)
+    (λ c κs. search needs) (λ c κs. search needs) right-is-bit (λ c κs. search needs) (λ c. search needs))

@@ -44,16 +44,5 @@ past-both c =
 pub shl-spec : {M : Type 1} → statement M
 shl-spec =
     tie.close
-    (tie.spec
-    by-nothing
-    (λ c. search needs)
-    (λ c. search needs)
-    (λ c. search needs)
-    (λ c. search needs)
-    (λ c. search needs)
-    within-a-word
-    (λ c. search needs)
-    (λ c. search needs)
-    past-a-word
-    (λ c κs. search needs)
-    past-both)
+    (tie.spec by-nothing (λ c. search needs) (λ c. search needs) (λ c. search needs) (λ c. search needs) (λ c. search needs)
+    within-a-word (λ c. search needs) (λ c. search needs) past-a-word (λ c κs. search needs) past-both)

@@ -38,21 +38,11 @@ past-both : tie.Need-returns-4
 past-both c =
     let a = c .before .before .before .before .args in let x = a .self in
     let p : Proper x = omega arith in
-    c .zero .ensures ∙ sym element-zero ∙ ap element (sym (div-eq-of-lt (lt-of-lt-of-le (value-lt p) (pow-mono {i = 128} {j = a .k} (omega arith)))))
+    c .zero .ensures ∙ sym element-zero
+    ∙ ap element (sym (div-eq-of-lt (lt-of-lt-of-le (value-lt p) (pow-mono {i = 128} {j = a .k} (omega arith)))))
 
 pub shr-spec : {M : Type 1} → statement M
 shr-spec =
     tie.close
-    (tie.spec
-    by-nothing
-    (λ c. search needs)
-    (λ c. search needs)
-    (λ c. search needs)
-    (λ c. search needs)
-    (λ c. search needs)
-    within-a-word
-    (λ c. search needs)
-    (λ c. search needs)
-    past-a-word
-    (λ c κs. search needs)
-    past-both)
+    (tie.spec by-nothing (λ c. search needs) (λ c. search needs) (λ c. search needs) (λ c. search needs) (λ c. search needs)
+    within-a-word (λ c. search needs) (λ c. search needs) past-a-word (λ c κs. search needs) past-both)

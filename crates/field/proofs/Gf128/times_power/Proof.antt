@@ -63,21 +63,6 @@ after-the-loop c =
 pub times-power-spec : {M : Type 1} → statement M
 times-power-spec =
     tie.close
-    (tie.spec
-    Inv-loop
-    μ-loop
-    no-power
-    (λ c κs. search needs)
-    past-128
-    (λ c. search needs)
-    (λ c κs. search needs)
-    (λ c κs. search needs)
-    (λ c κs. search needs)
-    (λ c κs. search needs)
-    plain-shift
-    loop-holds
-    (λ c κs. search needs)
-    (λ c. search needs)
-    (λ c. search needs)
-    loop-again
-    after-the-loop)
+    (tie.spec Inv-loop μ-loop no-power (λ c κs. search needs) past-128 (λ c. search needs) (λ c κs. search needs)
+    (λ c κs. search needs) (λ c κs. search needs) (λ c κs. search needs) plain-shift loop-holds (λ c κs. search needs)
+    (λ c. search needs) (λ c. search needs) loop-again after-the-loop)

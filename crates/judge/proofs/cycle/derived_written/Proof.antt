@@ -4,9 +4,9 @@ use mathlib.Core.Path.{sym, ap₂, _∙_}
 use mathlib.Core.Bool.{_&&_}
 use mathlib.Core.List.{_++_}
 use borrow.Author.Needs.{needs}
-use Rattle.step.specs.Fill.Words.{lowBlocks, flagBlocks, highBlocks}
+use Rattle.filler.specs.Words.{lowBlocks, flagBlocks, highBlocks}
 use Rattle.judge.specs.Words.{wordsFrom}
-use Rattle.judge.specs.Words.Walk.{written-parts}
+use Rattle.judge.specs.Laws.WordsWalk.{written-parts}
 use Rattle.judge.proofs.cycle.derived_written.Statement.{statement}
 use Rattle.judge.proofs.cycle.derived_written.Tie as tie
 

@@ -10,4 +10,5 @@ returns c = simp and-true cc
 
 pub flags-written-spec : {M : Type 1} → statement M
 flags-written-spec =
-    tie.close (tie.spec (λ c κs. search needs) (λ c κs. search needs) (λ c κs. search needs) (λ c κs. search needs) returns)
+    tie.close
+    (tie.spec (λ c κs. search needs) (λ c κs. search needs) (λ c κs. search needs) (λ c κs. search needs) returns)

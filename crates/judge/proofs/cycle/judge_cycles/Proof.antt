@@ -7,7 +7,7 @@ use native.Mathlib.Omega.{arith}
 use borrow.Author.Needs.{needs}
 use borrow.Author.Tests.{not-true, not-false}
 use Rattle.judge.specs.Words.{allJudged}
-use Rattle.judge.specs.Words.Walk.{judged-stops, judged-goes, judged-ends}
+use Rattle.judge.specs.Laws.WordsWalk.{judged-stops, judged-goes, judged-ends}
 use Rattle.judge.proofs.cycle.judge_cycles.Statement.{statement}
 use Rattle.judge.proofs.cycle.judge_cycles.Tie as tie
 
@@ -20,12 +20,6 @@ abbrev μ-loop : tie.MeasureT-loop
 loop-holds : tie.Need-loop-holds Inv-loop μ-loop
 loop-holds c = (search needs, rw sub-zero)
 
-mul-judge-cycle : tie.Need-mul-judge-cycle Inv-loop μ-loop
-mul-judge-cycle c = omega arith
-
-judge-cycle-requires : tie.Need-judge-cycle-requires Inv-loop μ-loop
-judge-cycle-requires c κs = omega arith
-
 returns : tie.Need-returns Inv-loop μ-loop
 returns c =
     let t = c .before .before .before .loop in let a = c .before .before .before .before .before .args in
@@ -33,12 +27,6 @@ returns c =
     (judged-stops (a .words .now) (a .output) (a .cpi) (t .cycle) (c .before .before .loop-test .taken)
     (sym (c .before .judge-cycle .ensures) ∙ not-true _ (c .if1 .taken)))
     ∙ t .inv .1
-
-add-cycle : tie.Need-add-cycle Inv-loop μ-loop
-add-cycle c = omega arith
-
-loop-less : tie.Need-loop-less Inv-loop μ-loop
-loop-less c = omega arith
 
 loop-again : tie.Need-loop-again Inv-loop μ-loop
 loop-again c =
@@ -58,4 +46,5 @@ returns-2 c =
 pub judge-cycles-spec : {M : Type 1} → statement M
 judge-cycles-spec =
     tie.close
-    (tie.spec Inv-loop μ-loop loop-holds mul-judge-cycle judge-cycle-requires returns add-cycle loop-less loop-again returns-2)
+    (tie.spec Inv-loop μ-loop loop-holds (λ c. search needs) (λ c κs. search needs) returns (λ c. search needs)
+    (λ c. search needs) loop-again returns-2)

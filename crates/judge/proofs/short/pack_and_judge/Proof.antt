@@ -1,9 +1,8 @@
 -- `judge::short::pack_and_judge` meets its contract: where the columns are bits the packed words are judged, and else it is a no.
 -- Assumes nothing.
-use mathlib.Core.Path.{sym, _∙_}
 use native.Mathlib.Omega.{arith}
-use Rattle.layout.specs.Sizes.{allowed-range}
-use Rattle.judge.specs.Short.Laws.{of-bits, packed-room, not-of-bits, not-bits, refused-bits}
+use Rattle.layout.specs.Laws.Sizes.{allowed-range}
+use Rattle.judge.specs.Laws.Short.{of-bits, packed-room, not-of-bits, not-bits, refused-bits}
 use borrow.Author.Needs.{needs}
 use Rattle.judge.proofs.short.pack_and_judge.Statement.{statement}
 use Rattle.judge.proofs.short.pack_and_judge.Tie as tie
@@ -36,18 +35,6 @@ returns-3 c =
 pub pack-and-judge-spec : {M : Type 1} → statement M
 pack-and-judge-spec =
     tie.close
-    (tie.spec
-    (λ c κs. search needs)
-    (λ c. search needs)
-    (λ c. search needs)
-    (λ c. search needs)
-    element-requires
-    judge-cycles-requires
-    (λ c. search needs)
-    (λ c. search needs)
-    (λ c. search needs)
-    returns
-    (λ c. search needs)
-    returns-2
-    (λ c. search needs)
-    returns-3)
+    (tie.spec (λ c κs. search needs) (λ c. search needs) (λ c. search needs) (λ c. search needs) element-requires
+    judge-cycles-requires (λ c. search needs) (λ c. search needs) (λ c. search needs) returns (λ c. search needs) returns-2
+    (λ c. search needs) returns-3)

@@ -4,7 +4,7 @@ use mathlib.Core.Path.{sym, ap, _∙_}
 use Prim.Native.Nat.{ℕ, _*_}
 use lib.ListN.{replicate}
 use Rattle.judge.specs.Short.{shortBits}
-use Rattle.judge.specs.Short.Laws.{of-one}
+use Rattle.judge.specs.Laws.Short.{of-one}
 use borrow.Author.Needs.{needs}
 use Rattle.judge.proofs.short.short_bits.Statement.{statement}
 use Rattle.judge.proofs.short.short_bits.Tie as tie
@@ -20,10 +20,4 @@ returns c =
 pub short-bits-spec : {M : Type 1} → statement M
 short-bits-spec =
     tie.close
-    (tie.spec
-    short-one-requires
-    returns
-    (λ c κs. search needs)
-    (λ c. search needs)
-    (λ c κs. search needs)
-    (λ c. search needs))
+    (tie.spec short-one-requires returns (λ c κs. search needs) (λ c. search needs) (λ c κs. search needs) (λ c. search needs))

@@ -5,7 +5,7 @@ use Prim.Native.Nat.{_*_}
 use native.Mathlib.Omega.{arith}
 use lib.Seq.{length-take-le}
 use Rattle.judge.specs.Short.{shortBits}
-use Rattle.judge.specs.Short.Laws.{named-in, zeros-taken, in-range}
+use Rattle.judge.specs.Laws.Short.{named-in, zeros-taken, in-range}
 use borrow.Author.Needs.{needs}
 use Rattle.judge.proofs.short.short_large.Statement.{statement}
 use Rattle.judge.proofs.short.short_large.Tie as tie
@@ -25,14 +25,10 @@ returns : tie.Need-returns
 returns c =
     let c4 = c .before .before .before .before in
     let a = c4 .args in
-    c .before .pack-and-judge .ensures ∙ ap (shortBits (a .cpi) (a .batch .now)) (zeros-taken (32 * a .cpi) 8192 (omega (arith, in-range _ _ (c4 .pre))))
+    c .before .pack-and-judge .ensures
+    ∙ ap (shortBits (a .cpi) (a .batch .now)) (zeros-taken (32 * a .cpi) 8192 (omega (arith, in-range _ _ (c4 .pre))))
 
 pub short-large-spec : {M : Type 1} → statement M
 short-large-spec =
     tie.close
-    (tie.spec
-    (λ c. search needs)
-    array-borrow-prefix-out
-    slice-aggregate-pack-and-judge
-    pack-and-judge-requires
-    returns)
+    (tie.spec (λ c. search needs) array-borrow-prefix-out slice-aggregate-pack-and-judge pack-and-judge-requires returns)

@@ -5,7 +5,7 @@ use Prim.Native.Nat.{_*_}
 use native.Mathlib.Omega.{arith}
 use lib.Seq.{length-take-le}
 use Rattle.judge.specs.Short.{shortBits}
-use Rattle.judge.specs.Short.Laws.{named-in, zeros-taken}
+use Rattle.judge.specs.Laws.Short.{named-in, zeros-taken}
 use borrow.Author.Needs.{needs}
 use Rattle.judge.proofs.short.short_small.Statement.{statement}
 use Rattle.judge.proofs.short.short_small.Tie as tie
@@ -25,9 +25,4 @@ returns c =
 pub short-small-spec : {M : Type 1} → statement M
 short-small-spec =
     tie.close
-    (tie.spec
-    (λ c. search needs)
-    (λ c. search needs)
-    slice-aggregate-pack-and-judge
-    pack-and-judge-requires
-    returns)
+    (tie.spec (λ c. search needs) (λ c. search needs) slice-aggregate-pack-and-judge pack-and-judge-requires returns)

@@ -4,7 +4,7 @@ use mathlib.Core.Path.{refl}
 use Rattle.layout.specs.Segments.{segments}
 use Rattle.layout.proofs.segments.segment_names.Statement.{statement}
 use Rattle.layout.proofs.segments.segment_names.Tie as tie
-use Rattle.layout.specs.Lists.{joined}
+use Rattle.base.specs.Lists.{joined}
 
 returns : tie.Need-returns
 unfolding segments joined

@@ -4,13 +4,15 @@ use mathlib.Core.Path.{_≡_, sym, ap, subst, _∙_}
 use Prim.Native.Nat.{ℕ, _-_, _≤_}
 use native.Mathlib.Omega.{arith}
 use lib.ListN.{length, length-replicate}
-use Rattle.packed.specs.Ranges.{Ranged, cleared, no-range, next-range}
+use Rattle.packed.specs.Ranges.{Ranged}
+use Rattle.packed.specs.Laws.Ranges.{cleared, no-range, next-range}
 use borrow.Author.Needs.{needs}
 use Rattle.packed.proofs.many.pack_words.Statement.{statement}
 use Rattle.packed.proofs.many.pack_words.Tie as tie
 
 abbrev Inv-loop : tie.InvT-loop
-Inv-loop cpi batch step first last acc₀ out₀ bad₀ k₀ acc out bad k = (length acc ≡ cpi) × ((first ≤ k) × ((k ≤ last) × Ranged cpi batch first k out₀ out bad))
+Inv-loop cpi batch step first last acc₀ out₀ bad₀ k₀ acc out bad k =
+    (length acc ≡ cpi) × ((first ≤ k) × ((k ≤ last) × Ranged cpi batch first k out₀ out bad))
 
 abbrev μ-loop : tie.MeasureT-loop
 μ-loop cpi batch step first last acc₀ out₀ bad₀ k₀ acc out bad k = last - k
@@ -38,18 +40,6 @@ put-words-requires c κs =
     let c15 = c11 .before .before .before .before in
     let p = c15 .pre in let l = c11 .loop in let w = c4 .word-columns .ensures in
     (omega (arith, p .0 .inside, c10 .loop-test .taken), omega (arith, w .sized, p .0 .room, l .inv .1 .1 .1 .lengths))
-
-add-k : tie.Need-add-k Inv-loop μ-loop
-add-k c =
-    let c13 = c .before .before .before .before .before .before .before .before .before .before .before .before .before in
-    let c18 = c13 .before .before .before .before .before in
-    omega (arith, c18 .pre .0 .inside, c13 .loop-test .taken)
-
-loop-less : tie.Need-loop-less Inv-loop μ-loop
-loop-less c =
-    let c13 = c .before .before .before .before .before .before .before .before .before .before .before .before .before in
-    let c18 = c13 .before .before .before .before .before in
-    omega (arith, c18 .pre .0 .inside, c13 .loop-test .taken)
 
 loop-again : tie.Need-loop-again Inv-loop μ-loop
 loop-again c =
@@ -83,16 +73,5 @@ returns c =
 pub pack-words-spec : {M : Type 1} → statement M
 pack-words-spec =
     tie.close
-    (tie.spec
-    Inv-loop
-    μ-loop
-    loop-holds
-    (λ c κs. search needs)
-    word-columns-requires
-    put-words-requires
-    add-k
-    loop-less
-    loop-again
-    same-length
-    same-length-2
-    returns)
+    (tie.spec Inv-loop μ-loop loop-holds (λ c κs. search needs) word-columns-requires put-words-requires (λ c. search needs)
+    (λ c. search needs) loop-again same-length same-length-2 returns)

@@ -1,9 +1,10 @@
 -- `packed::many::word_columns` meets its contract: after each turn acc has the stack of the columns passed.
 -- Assumes nothing.
-use mathlib.Core.Path.{_≡_, refl, sym, _∙_}
+use mathlib.Core.Path.{sym, _∙_}
 use Prim.Native.Nat.{_+_, _*_, _-_, _≤_}
 use native.Mathlib.Omega.{arith}
-use Rattle.packed.specs.Columns.{WordTurn, column-below, four-fits, first-word, next-word, last-word}
+use Rattle.packed.specs.Columns.{WordTurn}
+use Rattle.packed.specs.Laws.Columns.{column-below, four-fits, first-word, next-word, last-word}
 use borrow.Author.Needs.{needs}
 use Rattle.packed.proofs.many.word_columns.Statement.{statement}
 use Rattle.packed.proofs.many.word_columns.Tie as tie
@@ -17,57 +18,27 @@ abbrev μ-loop : tie.MeasureT-loop
 loop-holds : tie.Need-loop-holds Inv-loop μ-loop
 loop-holds c = let p = c .before .before .pre in (search needs, first-word _ _ _ _ (p .sized) (p .clear))
 
-sub-j : tie.Need-sub-j Inv-loop μ-loop
-sub-j c =
-    let c4 = c .before .before .before .before in
-    omega (arith, c4 .pre .inside, c4 .pre .few, c .before .loop .inv .0, c .loop-test .taken)
-
-mul-at : tie.Need-mul-at Inv-loop μ-loop
-mul-at c =
-    let c4 = c .before .before .before .before in
-    omega (arith, c4 .pre .inside, c4 .pre .few, c .before .loop .inv .0, c .loop-test .taken)
-
-mul-at-2 : tie.Need-mul-at-2 Inv-loop μ-loop
-mul-at-2 c =
-    let c4 = c .before .before .before .before in
-    omega (arith, c4 .pre .inside, c4 .pre .few, c .before .loop .inv .0, c .loop-test .taken)
-
-add-at : tie.Need-add-at Inv-loop μ-loop
-add-at c =
-    let c4 = c .before .before .before .before in
-    omega (arith, c4 .pre .inside, c4 .pre .few, c .before .loop .inv .0, c .loop-test .taken)
-
-mul-at-3 : tie.Need-mul-at-3 Inv-loop μ-loop
-mul-at-3 c =
-    let c4 = c .before .before .before .before in
-    omega (arith, c4 .pre .inside, c4 .pre .few, c .before .loop .inv .0, c .loop-test .taken)
-
 mul-at-4 : tie.Need-mul-at-4 Inv-loop μ-loop
 mul-at-4 c =
     let c4 = c .before .before .before .before in
     let p = c4 .pre in let a = c4 .args in let l = c .before .loop in
-    omega (arith, p .few, column-below (a .cpi) (a .batch .now) (a .k) (64 * a .k + 4 * (l .j - 1)) (omega (arith, p .inside, l .inv .0, c .loop-test .taken)))
-
-mul-four-columns : tie.Need-mul-four-columns Inv-loop μ-loop
-mul-four-columns c =
-    let c4 = c .before .before .before .before in
-    omega (arith, c4 .pre .inside, c4 .pre .few, c .before .loop .inv .0, c .loop-test .taken)
+    let here : 64 * a .k + 4 * (l .j - 1) ≤ 2044 = omega (arith, p .inside, l .inv .0, c .loop-test .taken) in
+    omega (arith, p .few, column-below (a .cpi) (a .batch .now) (a .k) (64 * a .k + 4 * (l .j - 1)) here)
 
 four-columns-requires : tie.Need-four-columns-requires Inv-loop μ-loop
 four-columns-requires c κs =
     let c2 = c .before .before in let c5 = c2 .before .before .before in
     let p = c5 .pre in let a = c5 .args in let l = c2 .loop in
-    four-fits (a .cpi) (a .batch .now) (a .k) (l .j - 1) (a .step) (omega (arith, l .inv .0, c .before .loop-test .taken)) (p .inside) (p .two) (p .words) (l .acc) (l .inv .1 .sized)
-
-loop-less : tie.Need-loop-less Inv-loop μ-loop
-loop-less c = omega (arith, c .before .before .before .before .loop-test .taken)
+    four-fits (a .cpi) (a .batch .now) (a .k) (l .j - 1) (a .step) (omega (arith, l .inv .0, c .before .loop-test .taken)) (p .inside)
+    (p .two) (p .words) (l .acc) (l .inv .1 .sized)
 
 loop-again : tie.Need-loop-again Inv-loop μ-loop
 loop-again c =
     let c2 = c .before .before in let c4 = c2 .before .before in let c5 = c4 .before in let c8 = c5 .before .before .before in
     let p = c8 .pre in let a = c8 .args in let l = c5 .loop in (
       omega (arith, l .inv .0),
-      next-word (a .cpi) (a .batch .now) (a .k) (l .acc) _ (l .bad) _ (l .j) (c4 .loop-test .taken) (l .inv .0) (l .inv .1) (c2 .four-columns .ensures),
+      next-word (a .cpi) (a .batch .now) (a .k) (l .acc) _ (l .bad) _ (l .j) (c4 .loop-test .taken) (l .inv .0) (l .inv .1)
+          (c2 .four-columns .ensures),
     )
 
 same-length : tie.Need-same-length Inv-loop μ-loop
@@ -81,19 +52,5 @@ returns c =
 pub word-columns-spec : {M : Type 1} → statement M
 word-columns-spec =
     tie.close
-    (tie.spec
-    Inv-loop
-    μ-loop
-    loop-holds
-    sub-j
-    mul-at
-    mul-at-2
-    add-at
-    mul-at-3
-    mul-at-4
-    mul-four-columns
-    four-columns-requires
-    loop-less
-    loop-again
-    same-length
-    returns)
+    (tie.spec Inv-loop μ-loop loop-holds (λ c. search needs) (λ c. search needs) (λ c. search needs) (λ c. search needs)
+    (λ c. search needs) mul-at-4 (λ c. search needs) four-columns-requires (λ c. search needs) loop-again same-length returns)

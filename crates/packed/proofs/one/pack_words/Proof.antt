@@ -1,10 +1,11 @@
 -- `packed::one::pack_words` meets its contract: the words passed stand in their places.
 -- Assumes nothing.
-use mathlib.Core.Path.{_≡_, sym, subst, _∙_}
+use mathlib.Core.Path.{_≡_, subst}
 use Prim.Native.Nat.{ℕ, _-_, _≤_}
 use native.Mathlib.Omega.{arith}
-use Rattle.packed.specs.Ranges.{Ranged, no-range}
-use Rattle.packed.specs.One.{next-row}
+use Rattle.packed.specs.Ranges.{Ranged}
+use Rattle.packed.specs.Laws.Ranges.{no-range}
+use Rattle.packed.specs.Laws.One.{next-row}
 use borrow.Author.Needs.{needs}
 use Rattle.packed.proofs.one.pack_words.Statement.{statement}
 use Rattle.packed.proofs.one.pack_words.Tie as tie
@@ -18,46 +19,6 @@ abbrev μ-loop : tie.MeasureT-loop
 loop-holds : tie.Need-loop-holds Inv-loop μ-loop
 loop-holds c = (search needs, (c .before .before .pre .order, no-range _ _ _ _))
 
-mul-seen-at : tie.Need-mul-seen-at Inv-loop μ-loop
-mul-seen-at c =
-    let c4 = c .before .before .before .before in
-    omega (arith, c4 .pre .inside, c4 .pre .words, c4 .pre .room, c .before .loop .inv .1 .1 .lengths, c .loop-test .taken)
-
-seen-at-requires : tie.Need-seen-at-requires Inv-loop μ-loop
-seen-at-requires c κs =
-    let c4 = c .before .before .before .before in
-    omega (arith, c4 .pre .inside, c4 .pre .words, c4 .pre .room, c .before .loop .inv .1 .1 .lengths, c .loop-test .taken)
-
-mul-word-at : tie.Need-mul-word-at Inv-loop μ-loop
-mul-word-at c =
-    let c2 = c .before .before in let c5 = c2 .before .before .before in
-    omega (arith, c5 .pre .inside, c5 .pre .words, c5 .pre .room, c2 .loop .inv .1 .1 .lengths, c .before .loop-test .taken)
-
-word-at-requires : tie.Need-word-at-requires Inv-loop μ-loop
-word-at-requires c κs =
-    let c2 = c .before .before in let c5 = c2 .before .before .before in
-    omega (arith, c5 .pre .inside, c5 .pre .words, c5 .pre .room, c2 .loop .inv .1 .1 .lengths, c .before .loop-test .taken)
-
-mul-out : tie.Need-mul-out Inv-loop μ-loop
-mul-out c =
-    let c2 = c .before .before in let c3 = c2 .before in let c6 = c3 .before .before .before in
-    omega (arith, c6 .pre .inside, c6 .pre .words, c6 .pre .room, c3 .loop .inv .1 .1 .lengths, c2 .loop-test .taken)
-
-slice-write-out : tie.Need-slice-write-out Inv-loop μ-loop
-slice-write-out c =
-    let c2 = c .before .before in let c3 = c2 .before in let c6 = c3 .before .before .before in
-    omega (arith, c6 .pre .inside, c6 .pre .words, c6 .pre .room, c3 .loop .inv .1 .1 .lengths, c2 .loop-test .taken)
-
-add-k : tie.Need-add-k Inv-loop μ-loop
-add-k c =
-    let c2 = c .before .before in let c3 = c2 .before in let c6 = c3 .before .before .before in
-    omega (arith, c6 .pre .inside, c6 .pre .words, c6 .pre .room, c3 .loop .inv .1 .1 .lengths, c2 .loop-test .taken)
-
-loop-less : tie.Need-loop-less Inv-loop μ-loop
-loop-less c =
-    let c2 = c .before .before in let c3 = c2 .before in let c6 = c3 .before .before .before in
-    omega (arith, c6 .pre .inside, c6 .pre .words, c6 .pre .room, c3 .loop .inv .1 .1 .lengths, c2 .loop-test .taken)
-
 loop-again : tie.Need-loop-again Inv-loop μ-loop
 loop-again c =
     let c2 = c .before .before in let c3 = c2 .before in let c6 = c3 .before .before .before in
@@ -65,7 +26,8 @@ loop-again c =
       omega (arith, l .inv .0),
       (
         omega (arith, c2 .loop-test .taken),
-        next-row (a .batch .now) (a .first) (l .k) (a .out .now) (l .out) (l .bad) _ (l .inv .0) (omega (arith, p .inside, c2 .loop-test .taken)) (p .room) (l .inv .1 .1) (c .word-at .ensures) (c .before .seen-at .ensures),
+        next-row (a .batch .now) (a .first) (l .k) (a .out .now) (l .out) (l .bad) _ (l .inv .0)
+            (omega (arith, p .inside, c2 .loop-test .taken)) (p .room) (l .inv .1 .1) (c .word-at .ensures) (c .before .seen-at .ensures),
       ),
     )
 
@@ -81,18 +43,5 @@ returns c =
 pub pack-words-spec : {M : Type 1} → statement M
 pack-words-spec =
     tie.close
-    (tie.spec
-    Inv-loop
-    μ-loop
-    loop-holds
-    mul-seen-at
-    seen-at-requires
-    mul-word-at
-    word-at-requires
-    mul-out
-    slice-write-out
-    add-k
-    loop-less
-    loop-again
-    same-length
-    returns)
+    (tie.spec Inv-loop μ-loop loop-holds (λ c. search needs) (λ c κs. search needs) (λ c. search needs) (λ c κs. search needs)
+    (λ c. search needs) (λ c. search needs) (λ c. search needs) (λ c. search needs) loop-again same-length returns)

@@ -1,11 +1,9 @@
 -- `packed::one::seen_at` meets its contract: the or of what was passed tells of each of them.
 -- Assumes nothing.
 use mathlib.Core.Path.{_≡_, refl, subst}
-use mathlib.Core.Logic.{_↔_}
-use Prim.Native.Nat.{ℕ, _+_, _*_, _-_, _/_, _≤_}
+use Prim.Native.Nat.{ℕ, _+_, _*_, _-_, _≤_}
 use native.Mathlib.Omega.{arith}
-use lib.Bits.{bitOr}
-use Rattle.packed.specs.Seen.{Seen, seen-none, seen-more, seen-bits}
+use Rattle.packed.specs.Laws.Seen.{Seen, seen-none, seen-more, seen-bits}
 use borrow.Author.Needs.{needs}
 use Rattle.packed.proofs.one.seen_at.Statement.{statement}
 use Rattle.packed.proofs.one.seen_at.Tie as tie
@@ -28,25 +26,12 @@ returns : tie.Need-returns Inv-loop μ-loop
 returns c =
     let c2 = c .before .before in
     let l = c .before .loop in let a = c2 .args in let e : l .j ≡ 64 = omega arith in
-    seen-bits (a .batch .now) (λ (x : ℕ). a .i + 2 * x) 64 (l .low) (l .high) (subst (λ (n : ℕ). Seen (a .batch .now) (λ (x : ℕ). a .i + 2 * x) n (l .low) (l .high)) e (l .inv .1))
+    seen-bits (a .batch .now) (λ (x : ℕ). a .i + 2 * x) 64 (l .low) (l .high)
+    (subst (λ (n : ℕ). Seen (a .batch .now) (λ (x : ℕ). a .i + 2 * x) n (l .low) (l .high)) e (l .inv .1))
 
 pub seen-at-spec : {M : Type 1} → statement M
 seen-at-spec =
     tie.close
-    (tie.spec
-    Inv-loop
-    μ-loop
-    loop-holds
-    (λ c. omega arith)
-    (λ c. omega arith)
-    (λ c. omega arith)
-    (λ c. omega arith)
-    (λ c. omega arith)
-    (λ c. omega arith)
-    (λ c. omega arith)
-    (λ c. omega arith)
-    (λ c. omega arith)
-    (λ c. omega arith)
-    (λ c. omega arith)
-    loop-again
-    returns)
+    (tie.spec Inv-loop μ-loop loop-holds (λ c. omega arith) (λ c. omega arith) (λ c. omega arith) (λ c. omega arith)
+    (λ c. omega arith) (λ c. omega arith) (λ c. omega arith) (λ c. omega arith) (λ c. omega arith) (λ c. omega arith)
+    (λ c. omega arith) loop-again returns)

@@ -1,6 +1,5 @@
 -- `packed::sums::above` meets its contract: a shift drops what passes 2^64, and the sum wraps.
 -- Assumes nothing.
-use mathlib.Core.Path.{_≡_, refl}
 use Rattle.packed.specs.Stacked.{pushed}
 use borrow.Author.Needs.{needs}
 use Rattle.packed.proofs.sums.above.Statement.{statement}

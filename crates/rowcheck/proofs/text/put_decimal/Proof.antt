@@ -12,7 +12,8 @@ use Rattle.rowcheck.proofs.text.put_decimal.Tie as tie
 put-requires : tie.Need-put-requires
 put-requires c κs =
     let d = c .before .before .decimal in let n = c .before .before .before .before .before in
-    let e : take (d .result) (d .last .1 .0) ≡ decimal (n .args .n) = digits-decimal _ _ _ (n .fits .n .fits) (d .ensures .1 .0) (d .ensures .1 .1) in
+    let e : take (d .result) (d .last .1 .0) ≡ decimal (n .args .n) = digits-decimal _ _ _ (n .fits .n .fits) (d .ensures .1 .0)
+    (d .ensures .1 .1) in
     omega (arith, ap length e, decimal-length 20 (n .args .n))
 
 returns : tie.Need-returns
@@ -24,10 +25,4 @@ returns c =
 pub put-decimal-spec : {M : Type 1} → statement M
 put-decimal-spec =
     tie.close
-    (tie.spec
-    (λ c κs. search needs)
-    (λ c. search needs)
-    (λ c. search needs)
-    put-requires
-    (λ c. search needs)
-    returns)
+    (tie.spec (λ c κs. search needs) (λ c. search needs) (λ c. search needs) put-requires (λ c. search needs) returns)

@@ -4,9 +4,10 @@ use mathlib.Core.Path.{_≡_, sym, ap, _∙_}
 use mathlib.Core.Bool.{not}
 use Prim.Native.Nat.{_≤_, _-_}
 use native.Mathlib.Nat.{sub-zero}
-use native.Mathlib.Omega.{arith}
 use borrow.Author.Needs.{needs}
-use Rattle.verdict.specs.Bits.{firstFrom, aboveOne, first-stops, first-goes, first-ends}
+use Rattle.base.specs.Tests.{firstFrom}
+use Rattle.verdict.specs.Bits.{aboveOne}
+use Rattle.base.specs.Laws.First.{first-stops, first-goes, first-ends}
 use Rattle.verdict.proofs.bits.first_above.Statement.{statement}
 use Rattle.verdict.proofs.bits.first_above.Tie as tie
 
@@ -20,25 +21,18 @@ abbrev μ-loop : tie.MeasureT-loop
 loop-holds : tie.Need-loop-holds Inv-loop μ-loop
 loop-holds c = (search needs, rw sub-zero)
 
-is-bit-at-requires : tie.Need-is-bit-at-requires Inv-loop μ-loop
-is-bit-at-requires c κs = search needs
-
 returns : tie.Need-returns Inv-loop μ-loop
 returns c =
     let t = c .before .before .before .loop in
-    sym (first-stops _ (t .i) _ (c .before .before .loop-test .taken) (ap not (sym (c .before .is-bit-at .ensures)) ∙ c .if1 .taken)) ∙ t .inv .1
-
-add-i : tie.Need-add-i Inv-loop μ-loop
-add-i c = search needs
-
-loop-less : tie.Need-loop-less Inv-loop μ-loop
-loop-less c = search needs
+    sym (first-stops _ (t .i) _ (c .before .before .loop-test .taken) (ap not (sym (c .before .is-bit-at .ensures)) ∙ c .if1 .taken))
+    ∙ t .inv .1
 
 loop-again : tie.Need-loop-again Inv-loop μ-loop
 loop-again c =
     let t = c .before .before .before .loop in (
       search needs,
-      sym (first-goes _ (t .i) _ (c .before .before .loop-test .taken) (ap not (sym (c .before .is-bit-at .ensures)) ∙ c .if1 .left)) ∙ t .inv .1,
+      sym (first-goes _ (t .i) _ (c .before .before .loop-test .taken) (ap not (sym (c .before .is-bit-at .ensures)) ∙ c .if1 .left))
+          ∙ t .inv .1,
     )
 
 returns-2 : tie.Need-returns-2 Inv-loop μ-loop
@@ -47,4 +41,5 @@ returns-2 c = let t = c .before .loop in sym (first-ends _ (t .i) _ (c .loop-tes
 pub first-above-spec : {M : Type 1} → statement M
 first-above-spec =
     tie.close
-    (tie.spec Inv-loop μ-loop loop-holds is-bit-at-requires returns add-i loop-less loop-again returns-2)
+    (tie.spec Inv-loop μ-loop loop-holds (λ c κs. search needs) returns (λ c. search needs) (λ c. search needs) loop-again
+    returns-2)

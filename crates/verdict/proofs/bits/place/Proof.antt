@@ -6,22 +6,15 @@ use Rattle.verdict.specs.Bits.{placed}
 use Rattle.verdict.proofs.bits.place.Statement.{statement}
 use Rattle.verdict.proofs.bits.place.Tie as tie
 
-unmap-col-requires : tie.Need-unmap-col-requires
-unmap-col-requires c κs = search needs
-
-enum-known-found : tie.Need-enum-known-found
-enum-known-found c = search needs
-
-enum-known-found-2 : tie.Need-enum-known-found-2
-enum-known-found-2 c = search needs
-
 returns : tie.Need-returns
 returns c =
-    ap (placed (c .before .before .before .before .args .at)) (sym (c .before .found .given .1) ∙ c .before .before .before .unmap-col .ensures)
+    ap (placed (c .before .before .before .before .args .at))
+    (sym (c .before .found .given .1) ∙ c .before .before .before .unmap-col .ensures)
 
 returns-2 : tie.Need-returns-2
 returns-2 c =
-    ap (placed (c .before .before .before .before .args .at)) (sym (c .before .found2 .given .1) ∙ c .before .before .before .unmap-col .ensures)
+    ap (placed (c .before .before .before .before .args .at))
+    (sym (c .before .found2 .given .1) ∙ c .before .before .before .unmap-col .ensures)
 
 pub place-spec : {M : Type 1} → statement M
-place-spec = tie.close (tie.spec unmap-col-requires enum-known-found enum-known-found-2 returns returns-2)
+place-spec = tie.close (tie.spec (λ c κs. search needs) (λ c. search needs) (λ c. search needs) returns returns-2)

@@ -1,13 +1,11 @@
 -- `verdict::rows::column_at` meets its contract: each branch is the definition's, and a batch has at most 4096 * 256 columns.
 -- Assumes nothing.
-use mathlib.Core.Path.{sym}
-use Prim.Native.Nat.{ℕ, _*_, _+_, _<_, _≤_}
 use borrow.Author.Needs.{needs}
 use borrow.Author.Tests.{lt-ltb, le-ltb}
 use native.Mathlib.Nat.{mul-le-mul, mul-le-mul-right}
 use native.Mathlib.Omega.{arith}
 use Rattle.layout.specs.Batch.{columnAt}
-use Rattle.layout.specs.Questions.{passed, refused}
+use Rattle.base.specs.Laws.Tests.{passed, refused}
 use Rattle.verdict.proofs.rows.column_at.Statement.{statement}
 use Rattle.verdict.proofs.rows.column_at.Tie as tie
 
@@ -21,12 +19,6 @@ add-result c =
     let a = c .before .args in
     omega (arith, mul-le-mul {n₁ = a .column} {m₁ = a .cpi} {n₂ = 4096} {m₂ = 256} (omega arith) (omega arith))
 
-mul-result-2 : tie.Need-mul-result-2
-mul-result-2 c = search needs
-
-add-result-2 : tie.Need-add-result-2
-add-result-2 c = search needs
-
 returns : tie.Need-returns
 unfolding columnAt
 returns c =
@@ -38,5 +30,4 @@ unfolding columnAt
 returns-2 c = (refused _ _ _ (le-ltb _ _ (c .if1 .left)), omega arith)
 
 pub column-at-spec : {M : Type 1} → statement M
-column-at-spec =
-    tie.close (tie.spec mul-result add-result mul-result-2 add-result-2 returns returns-2)
+column-at-spec = tie.close (tie.spec mul-result add-result (λ c. search needs) (λ c. search needs) returns returns-2)

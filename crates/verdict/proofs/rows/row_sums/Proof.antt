@@ -3,38 +3,41 @@
 use mathlib.Core.Path.{_≡_, sym, ap, _∙_}
 use mathlib.Core.Bool.{true}
 use mathlib.Core.List.{List}
-use Prim.Native.Nat.{ℕ, _+_, _≤_}
+use Prim.Native.Nat.{ℕ, _+_}
 use borrow.Author.Needs.{needs}
 use native.Mathlib.Omega.{arith}
-use lib.ListN.{length, drop}
+use lib.ListN.{drop}
 use lib.Seq.{drop-drop}
 use Rattle.field.specs.declared.Gf128.{Gf128}
+use Rattle.circuit.specs.declared.Side.{Side}
+use Rattle.circuit.specs.declared.Side.the-variants.{A, B, C}
 use Rattle.circuit.specs.Parse.{rowsOf}
 use Rattle.verdict.specs.declared.rows.SideSum.{SideSum}
 use Rattle.verdict.specs.Row.{sumOf}
-use Rattle.verdict.specs.Runs.{runLength, runTerms, sorted, row-rest, row-rows, row-sides}
-use Rattle.verdict.specs.Walks.{SideSummed, RowSummed}
+use Rattle.verdict.specs.RowParts.{runLength, runTerms, sorted}
+use Rattle.verdict.specs.Laws.RowParts.{row-rest, row-rows, row-sides}
+use Rattle.verdict.specs.Promises.{SideSummed, RowSummed}
 use Rattle.verdict.proofs.rows.row_sums.Statement.{statement}
 use Rattle.verdict.proofs.rows.row_sums.Tie as tie
 
 -- the words behind a run
-behind : (side : ℕ) (ws : List ℕ) (from end : ℕ) → end ≡ from + runLength side (drop from ws)
+behind : (side : Side) (ws : List ℕ) (from end : ℕ) → end ≡ from + runLength side (drop from ws)
     → drop end ws ≡ drop (runLength side (drop from ws)) (drop from ws)
 behind side ws from end e = ap (λ (n : ℕ). drop n ws) e ∙ sym (drop-drop (runLength side (drop from ws)) from ws)
 
 module _ (z : ℕ → Gf128) (ws : List ℕ) (from : ℕ) (h : sorted 0 (drop from ws) ≡ true) (a b c : SideSum)
-    (p : SideSummed z ws from 0 a) (q : SideSummed z ws (a .end) 1 b) (r : SideSummed z ws (b .end) 2 c) where
-  abbrev next : ℕ → List ℕ → List ℕ
+    (p : SideSummed z ws from A a) (q : SideSummed z ws (a .end) B b) (r : SideSummed z ws (b .end) C c) where
+  abbrev next : Side → List ℕ → List ℕ
   next side xs = drop (runLength side xs) xs
 
-  behind-a : drop (a .end) ws ≡ next 0 (drop from ws)
-  behind-a = behind 0 ws from (a .end) (p .end-is)
+  behind-a : drop (a .end) ws ≡ next A (drop from ws)
+  behind-a = behind A ws from (a .end) (p .end-is)
 
-  behind-b : drop (b .end) ws ≡ next 1 (next 0 (drop from ws))
-  behind-b = behind 1 ws (a .end) (b .end) (q .end-is) ∙ ap (next 1) behind-a
+  behind-b : drop (b .end) ws ≡ next B (next A (drop from ws))
+  behind-b = behind B ws (a .end) (b .end) (q .end-is) ∙ ap (next B) behind-a
 
-  behind-c : drop (c .end) ws ≡ next 2 (next 1 (next 0 (drop from ws)))
-  behind-c = behind 2 ws (b .end) (c .end) (r .end-is) ∙ ap (next 2) behind-b
+  behind-c : drop (c .end) ws ≡ next C (next B (next A (drop from ws)))
+  behind-c = behind C ws (b .end) (c .end) (r .end-is) ∙ ap (next C) behind-b
 
   summed : RowSummed z ws from (record { sums = record { a = a .sum; b = b .sum; c = c .sum }; end = c .end })
   summed =
@@ -43,8 +46,8 @@ module _ (z : ℕ → Gf128) (ws : List ℕ) (from : ℕ) (h : sorted 0 (drop fr
             rw (
               row-sides (drop from ws) h,
               p .sum-is,
-              q .sum-is ∙ ap (λ (xs : List ℕ). sumOf z (runTerms 1 xs)) behind-a,
-              r .sum-is ∙ ap (λ (xs : List ℕ). sumOf z (runTerms 2 xs)) behind-b,
+              q .sum-is ∙ ap (λ (xs : List ℕ). sumOf z (runTerms B xs)) behind-a,
+              r .sum-is ∙ ap (λ (xs : List ℕ). sumOf z (runTerms C xs)) behind-b,
             );
         ends =
             record {
@@ -55,21 +58,12 @@ module _ (z : ℕ → Gf128) (ws : List ℕ) (from : ℕ) (h : sorted 0 (drop fr
             };
       }
 
-side-sum-requires : tie.Need-side-sum-requires
-side-sum-requires c κs = search needs
-
-side-sum-requires-2 : tie.Need-side-sum-requires-2
-side-sum-requires-2 c κs = search needs
-
-side-sum-requires-3 : tie.Need-side-sum-requires-3
-side-sum-requires-3 c κs = search needs
-
 returns : tie.Need-returns
 returns c =
     let s = c .before .before .before in
-    summed _ _ _ (s .before .before .before .before .before .pre .1 .1) _ _ _ (s .before .before .side-sum .ensures) (s .before .side-sum2 .ensures)
+    summed _ _ _ (s .before .before .before .before .before .pre .1 .1) _ _ _ (s .before .before .side-sum .ensures)
+    (s .before .side-sum2 .ensures)
     (s .side-sum3 .ensures)
 
 pub row-sums-spec : {M : Type 1} → statement M
-row-sums-spec =
-    tie.close (tie.spec side-sum-requires side-sum-requires-2 side-sum-requires-3 returns)
+row-sums-spec = tie.close (tie.spec (λ c κs. search needs) (λ c κs. search needs) (λ c κs. search needs) returns)

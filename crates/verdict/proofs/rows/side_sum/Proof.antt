@@ -1,22 +1,23 @@
 -- `verdict::rows::side_sum` meets its contract: what the terms so far add up to, and the sum of the rest of the run, is the sum of the run.
 -- Assumes nothing.
 use mathlib.Core.Path.{_≡_, refl, sym, ap, _∙_}
+use mathlib.Core.Bool.{true, false}
 use mathlib.Core.List.{List, [], _∷_}
-use Prim.Native.Nat.{ℕ, _+_, _-_, _≤_, _<_, _%_, _^_}
+use Prim.Native.Nat.{ℕ, _+_, _-_, _≤_, _<_}
 use borrow.Author.Needs.{needs}
 use borrow.Author.Tests.{lt-ltb, le-ltb}
-use native.Mathlib.Omega.{arith}
-use denote.Ref.{now}
-use lib.ListN.{length, getD, drop}
+use lib.Dec.{ltb}
+use lib.ListN.{length, drop}
 use Rattle.field.specs.declared.Gf128.{Gf128}
 use Rattle.field.specs.Gf.{zero, added}
 use Rattle.field.specs.Gf.Laws.{add-assoc, add-zero, zero-add}
-use Rattle.circuit.specs.Words.{past, coefficientOf}
+use Rattle.circuit.specs.declared.Side.{Side}
+use Rattle.circuit.specs.Words.{kindOf, sideKind, past}
 use Rattle.circuit.specs.Rows.{Term}
-use Rattle.circuit.specs.Search.{stops, goes, ends}
+use Rattle.circuit.specs.Laws.Search.{stops, goes, ends}
 use Rattle.verdict.specs.Row.{cycleOf, times, sumOf}
-use Rattle.verdict.specs.Runs.{runLength, runTerms, termOf, run-stops, run-goes, run-ends}
-use Rattle.verdict.specs.Walks.{Cycle}
+use Rattle.verdict.specs.RowParts.{runLength, runTerms}
+use Rattle.verdict.specs.Laws.RowParts.{run-stops, run-goes, run-ends}
 use Rattle.verdict.proofs.rows.side_sum.Statement.{statement}
 use Rattle.verdict.proofs.rows.side_sum.Tie as tie
 
@@ -32,6 +33,14 @@ module _ (z : ℕ → Gf128) (sum : Gf128) where
   unfolding sumOf
   more {t} {ts} e h = add-assoc sum _ (sumOf z ts) ∙ ap (λ vs. added sum (sumOf z vs)) (sym e) ∙ h
 
+-- what the loop's test says of a word, by the side's kind
+module _ (side : Side) (w : ℕ) {kind : ℕ} (e : kind ≡ sideKind side) where
+  is-behind : kind < kindOf w → past side w ≡ true
+  is-behind h = ap (λ (k : ℕ). ltb k (kindOf w)) (sym e) ∙ lt-ltb kind (kindOf w) h
+
+  is-within : kindOf w ≤ kind → past side w ≡ false
+  is-within h = ap (λ (k : ℕ). ltb k (kindOf w)) (sym e) ∙ le-ltb kind (kindOf w) h
+
 abbrev Inv-loop : tie.InvT-loop
 Inv-loop cpi listing from side batch cycle sum₀ i₀ sum i =
     (i ≤ length listing)
@@ -42,45 +51,24 @@ Inv-loop cpi listing from side batch cycle sum₀ i₀ sum i =
 abbrev μ-loop : tie.MeasureT-loop
 μ-loop cpi listing from side batch cycle sum₀ i₀ sum i = length listing - i
 
-zero-requires : tie.Need-zero-requires Inv-loop μ-loop
-zero-requires c κs = search needs
-
 loop-holds : tie.Need-loop-holds Inv-loop μ-loop
 loop-holds c = (search needs, refl, rw (c .zero .ensures) (zero-add _))
 
-mul-w : tie.Need-mul-w Inv-loop μ-loop
-mul-w c = search needs
-
-shared-slice-read-w : tie.Need-shared-slice-read-w Inv-loop μ-loop
-shared-slice-read-w c = search needs
-
 returns : tie.Need-returns Inv-loop μ-loop
 returns c =
-    let t = c .before .before .before .loop in let a = c .before .before .before .before .before .before .before .args in
-    let inside = c .before .before .loop-test .taken in let stop = lt-ltb _ _ (c .if1 .taken) in
+    let l = c .before .before .before in let t = l .before .loop in let a = l .before .before .before .before .before .args in
+    let inside = l .loop-test .taken in let stop = is-behind (a .side) _ (c .before .side-kind .ensures) (c .if1 .taken) in
     record {
       end-is = sym (stops (past (a .side)) _ (t .i) inside stop) ∙ t .inv .1;
       sum-is = done _ _ (run-stops (a .side) _ (t .i) inside stop) (t .inv .2);
       fits = t .inv .0;
     }
 
-term-requires : tie.Need-term-requires Inv-loop μ-loop
-term-requires c κs = search needs
-
-add-requires : tie.Need-add-requires Inv-loop μ-loop
-add-requires c κs = search needs
-
-add-i : tie.Need-add-i Inv-loop μ-loop
-add-i c = search needs
-
-loop-less : tie.Need-loop-less Inv-loop μ-loop
-loop-less c = search needs
-
 loop-again : tie.Need-loop-again Inv-loop μ-loop
 loop-again c =
-    let b = c .before .before in let t = b .before .before .before .loop in
-    let a = b .before .before .before .before .before .before .before .args in
-    let inside = b .before .before .loop-test .taken in let go = le-ltb _ _ (b .if1 .left) in (
+    let b = c .before .before in let l = b .before .before .before in let t = l .before .loop in
+    let a = l .before .before .before .before .before .args in
+    let inside = l .loop-test .taken in let go = is-within (a .side) _ (b .before .side-kind .ensures) (b .if1 .left) in (
       search needs,
       sym (goes (past (a .side)) _ (t .i) inside go) ∙ t .inv .1,
       rw (c .add .ensures, c .before .term .ensures) (more _ _ (run-goes (a .side) _ (t .i) inside go) (t .inv .2)),
@@ -98,17 +86,5 @@ returns-2 c =
 pub side-sum-spec : {M : Type 1} → statement M
 side-sum-spec =
     tie.close
-    (tie.spec
-    Inv-loop
-    μ-loop
-    zero-requires
-    loop-holds
-    mul-w
-    shared-slice-read-w
-    returns
-    term-requires
-    add-requires
-    add-i
-    loop-less
-    loop-again
-    returns-2)
+    (tie.spec Inv-loop μ-loop (λ c κs. search needs) loop-holds (λ c. search needs) (λ c. search needs) (λ c κs. search needs)
+    returns (λ c κs. search needs) (λ c κs. search needs) (λ c. search needs) (λ c. search needs) loop-again returns-2)

@@ -2,19 +2,10 @@
 -- Assumes nothing.
 use mathlib.Core.Path.{ap, _∙_}
 use borrow.Author.Needs.{needs}
-use Rattle.field.specs.Gf.{same, product}
+use Rattle.field.specs.Gf.{same}
 use Rattle.verdict.specs.Row.{balanced}
 use Rattle.verdict.proofs.rows.test_row.Statement.{statement}
 use Rattle.verdict.proofs.rows.test_row.Tie as tie
-
-row-sums-requires : tie.Need-row-sums-requires
-row-sums-requires c κs = search needs
-
-mul-requires : tie.Need-mul-requires
-mul-requires c κs = search needs
-
-same-requires : tie.Need-same-requires
-same-requires c κs = search needs
 
 returns : tie.Need-returns
 unfolding balanced
@@ -26,4 +17,4 @@ returns c =
     }
 
 pub test-row-spec : {M : Type 1} → statement M
-test-row-spec = tie.close (tie.spec row-sums-requires mul-requires same-requires returns)
+test-row-spec = tie.close (tie.spec (λ c κs. search needs) (λ c κs. search needs) (λ c κs. search needs) returns)

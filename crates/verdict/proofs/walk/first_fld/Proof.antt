@@ -7,7 +7,7 @@ use native.Mathlib.Omega.{arith}
 use borrow.Author.Needs.{needs}
 use lib.ListN.{length, drop}
 use Rattle.circuit.specs.Found.{until}
-use Rattle.circuit.specs.Search.{stops, goes, ends}
+use Rattle.circuit.specs.Laws.Search.{stops, goes, ends}
 use Rattle.verdict.specs.Order.{isFldMark}
 use Rattle.verdict.proofs.walk.first_fld.Statement.{statement}
 use Rattle.verdict.proofs.walk.first_fld.Tie as tie
@@ -21,30 +21,19 @@ abbrev μ-loop : tie.MeasureT-loop
 loop-holds : tie.Need-loop-holds Inv-loop μ-loop
 loop-holds c = (omega arith, zero-add _)
 
-mul-is-fld-mark : tie.Need-mul-is-fld-mark Inv-loop μ-loop
-mul-is-fld-mark c = search needs
-
-shared-slice-read-is-fld-mark : tie.Need-shared-slice-read-is-fld-mark Inv-loop μ-loop
-shared-slice-read-is-fld-mark c = search needs
-
-is-fld-mark-requires : tie.Need-is-fld-mark-requires Inv-loop μ-loop
-is-fld-mark-requires c κs = search needs
-
 returns : tie.Need-returns Inv-loop μ-loop
 returns c =
     let t = c .before .before .before .before .loop in
-    sym (stops isFldMark _ (t .i) (c .before .before .before .loop-test .taken) (sym (c .before .is-fld-mark .ensures) ∙ c .if1 .taken)) ∙ t .inv .1
-
-add-i : tie.Need-add-i Inv-loop μ-loop
-add-i c = search needs
-
-loop-less : tie.Need-loop-less Inv-loop μ-loop
-loop-less c = search needs
+    sym (stops isFldMark _ (t .i) (c .before .before .before .loop-test .taken)
+    (sym (c .before .is-fld-mark .ensures) ∙ c .if1 .taken)) ∙ t .inv .1
 
 loop-again : tie.Need-loop-again Inv-loop μ-loop
 loop-again c =
-    let t = c .before .before .before .before .loop in
-    (omega arith, sym (goes isFldMark _ (t .i) (c .before .before .before .loop-test .taken) (sym (c .before .is-fld-mark .ensures) ∙ c .if1 .left)) ∙ t .inv .1)
+    let t = c .before .before .before .before .loop in (
+      omega arith,
+      sym (goes isFldMark _ (t .i) (c .before .before .before .loop-test .taken)
+          (sym (c .before .is-fld-mark .ensures) ∙ c .if1 .left)) ∙ t .inv .1,
+    )
 
 returns-2 : tie.Need-returns-2 Inv-loop μ-loop
 returns-2 c = let t = c .before .loop in sym (ends isFldMark _ (t .i) (c .loop-test .left)) ∙ t .inv .1
@@ -52,4 +41,5 @@ returns-2 c = let t = c .before .loop in sym (ends isFldMark _ (t .i) (c .loop-t
 pub first-fld-spec : {M : Type 1} → statement M
 first-fld-spec =
     tie.close
-    (tie.spec Inv-loop μ-loop loop-holds mul-is-fld-mark shared-slice-read-is-fld-mark is-fld-mark-requires returns add-i loop-less loop-again returns-2)
+    (tie.spec Inv-loop μ-loop loop-holds (λ c. search needs) (λ c. search needs) (λ c κs. search needs) returns
+    (λ c. search needs) (λ c. search needs) loop-again returns-2)

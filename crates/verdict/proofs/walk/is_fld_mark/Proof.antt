@@ -1,7 +1,7 @@
 -- `verdict::walk::is_fld_mark` meets its contract: each way out is the case that the test picks.
 -- Assumes nothing.
 use borrow.Author.Tests.{lt-ltb, le-ltb}
-use Rattle.layout.specs.Questions.{passed, refused}
+use Rattle.base.specs.Laws.Tests.{passed, refused}
 use Rattle.verdict.proofs.walk.is_fld_mark.Statement.{statement}
 use Rattle.verdict.proofs.walk.is_fld_mark.Tie as tie
 

@@ -1,7 +1,7 @@
 -- `verdict::walk::part_at` meets its contract: each way out is the part that the test picks.
 -- Assumes nothing.
 use borrow.Author.Tests.{eq-eqb, ne-eqb}
-use Rattle.layout.specs.Questions.{passed, refused}
+use Rattle.base.specs.Laws.Tests.{passed, refused}
 use Rattle.verdict.proofs.walk.part_at.Statement.{statement}
 use Rattle.verdict.proofs.walk.part_at.Tie as tie
 

@@ -1,6 +1,7 @@
--- `verdict::walk::walk` meets its contract: a listing in order splits into the words of its two relations, and their constraints are the listing's.
+-- `verdict::walk::walk` meets its contract: a listing in order splits into the words of its two relations, and their constraints are
+-- the listing's.
 -- Assumes nothing.
-use mathlib.Core.Path.{_≡_, refl, sym, ap, ap₂, subst, _∙_}
+use mathlib.Core.Path.{_≡_, sym, ap, ap₂, subst, _∙_}
 use mathlib.Core.Bool.{true}
 use mathlib.Core.List.{List, _++_, append-nil}
 use Prim.Native.Nat.{ℕ, _-_, _≤_}
@@ -9,15 +10,15 @@ use borrow.Author.Needs.{needs}
 use denote.Ref.{now}
 use lib.ListN.{length, take, drop, length-drop}
 use lib.Seq.{length-take-le, take-all}
-use Rattle.circuit.specs.Rows.{fromEach}
+use Rattle.base.specs.Lists.{fromEach}
 use Rattle.circuit.specs.Parse.{rowsOf}
 use Rattle.circuit.specs.Found.{until}
-use Rattle.layout.specs.Sizes.{allowed-range}
-use Rattle.verdict.specs.Runs.{sorted}
+use Rattle.layout.specs.Laws.Sizes.{allowed-range}
+use Rattle.verdict.specs.RowParts.{sorted}
 use Rattle.verdict.specs.Check.{inCycles, constraints, met, judged, run}
 use Rattle.verdict.specs.Order.{isFldMark}
-use Rattle.verdict.specs.Split.{Split, InOrder, in-order}
-use Rattle.verdict.specs.Left.{allParts}
+use Rattle.verdict.specs.Laws.Split.{Split, InOrder, in-order}
+use Rattle.verdict.specs.StillToTest.{allParts}
 use Rattle.verdict.specs.Row.{cycleOf}
 use Rattle.verdict.proofs.walk.walk.Statement.{statement}
 use Rattle.verdict.proofs.walk.walk.Tie as tie
@@ -34,7 +35,8 @@ same-constraints cpi ws n s =
 -- what the loops ask of the two parts
 parts : (ws : List ℕ) (n : ℕ) → n ≡ until isFldMark ws → InOrder ws
     → (length (take n ws) ≤ 16384)
-    × ((length (take (length ws - n) (drop n ws)) ≤ 16384) × ((sorted 3 (take n ws) ≡ true) × (sorted 3 (take (length ws - n) (drop n ws)) ≡ true)))
+    × ((length (take (length ws - n) (drop n ws)) ≤ 16384)
+    × ((sorted 3 (take n ws) ≡ true) × (sorted 3 (take (length ws - n) (drop n ws)) ≡ true)))
 parts ws n e o =
     let few = o .few in let inside = o .inside in
     rw (tail ws n) (
@@ -45,9 +47,6 @@ parts ws n e o =
       ),
     )
 
-first-fld-requires : tie.Need-first-fld-requires
-first-fld-requires c κs = search needs
-
 slice-aggregate-walk-parts : tie.Need-slice-aggregate-walk-parts
 slice-aggregate-walk-parts c =
     let e = c .before .first-fld .ensures in let o = in-order _ (c .before .before .before .before .pre .1 .1) in
@@ -55,7 +54,8 @@ slice-aggregate-walk-parts c =
 
 mul-walk-parts : tie.Need-mul-walk-parts
 mul-walk-parts c =
-    let e = c .before .first-fld .ensures in let o = in-order _ (c .before .before .before .before .pre .1 .1) in omega (arith, o .inside, o .few)
+    let e = c .before .first-fld .ensures in
+    let o = in-order _ (c .before .before .before .before .pre .1 .1) in omega (arith, o .inside, o .few)
 
 sub-walk-parts : tie.Need-sub-walk-parts
 sub-walk-parts c =
@@ -65,12 +65,10 @@ part-walk-parts-start : tie.Need-part-walk-parts-start
 part-walk-parts-start c =
     let e = c .before .first-fld .ensures in let o = in-order _ (c .before .before .before .before .pre .1 .1) in omega (arith, o .inside)
 
-part-walk-parts-end : tie.Need-part-walk-parts-end
-part-walk-parts-end c = search needs
-
 walk-parts-requires : tie.Need-walk-parts-requires
 walk-parts-requires c κs =
-    let e = c .before .before .first-fld .ensures in let p = c .before .before .before .before .before .pre in let o = in-order _ (p .1 .1) in (
+    let e = c .before .before .first-fld .ensures in let p = c .before .before .before .before .before .pre in
+    let o = in-order _ (p .1 .1) in (
       allowed-range _ (p .0) .1,
       (p .1 .0, parts _ _ e o),
     )
@@ -88,12 +86,5 @@ returns c =
 pub walk-spec : {M : Type 1} → statement M
 walk-spec =
     tie.close
-    (tie.spec
-    first-fld-requires
-    slice-aggregate-walk-parts
-    mul-walk-parts
-    sub-walk-parts
-    part-walk-parts-start
-    part-walk-parts-end
-    walk-parts-requires
-    returns)
+    (tie.spec (λ c κs. search needs) slice-aggregate-walk-parts mul-walk-parts sub-walk-parts part-walk-parts-start
+    (λ c. search needs) walk-parts-requires returns)

@@ -9,16 +9,19 @@ use borrow.Author.Tests.{not-true, not-false}
 use denote.Ref.{now}
 use lib.ListN.{length, drop}
 use Rattle.verdict.specs.Row.{cycleOf}
-use Rattle.verdict.specs.Runs.{sorted, at-mark}
+use Rattle.verdict.specs.RowParts.{sorted}
+use Rattle.verdict.specs.Laws.RowParts.{at-mark}
 use Rattle.verdict.specs.Check.{met, run}
-use Rattle.verdict.specs.Left.{of-parts, allParts, leftCycles, leftRows, relation-step, relation-end, cycle-step, cycle-end, row-end, row-here, along, run-on, run-stop}
+use Rattle.verdict.specs.Laws.StillToTest.{of-parts, relation-step, relation-end, cycle-step, cycle-end, row-end, row-here, along, run-on, run-stop}
+use Rattle.verdict.specs.StillToTest.{allParts, leftCycles, leftRows}
 use Rattle.verdict.proofs.walk.walk_parts.Statement.{statement}
 use Rattle.verdict.proofs.walk.walk_parts.Tie as tie
 
 abbrev Inv-rows : tie.InvT-rows
 Inv-rows cpi bin fld batch tested₀ relation cycle part at₀ tested at =
     (at ≤ length part) × (length part ≤ 16384) × (tested ≤ relation * 4194304 + cycle * 16384 + at) × (sorted 3 (drop at part) ≡ true)
-    × (run (met (cycleOf cpi batch)) tested (leftRows cpi bin fld part relation cycle at) ≡ run (met (cycleOf cpi batch)) 0 (allParts cpi bin fld 0))
+    × (run (met (cycleOf cpi batch)) tested (leftRows cpi bin fld part relation cycle at)
+    ≡ run (met (cycleOf cpi batch)) 0 (allParts cpi bin fld 0))
 
 abbrev μ-rows : tie.MeasureT-rows
 μ-rows cpi bin fld batch tested₀ relation cycle part at₀ tested at = length part - at
@@ -26,7 +29,8 @@ abbrev μ-rows : tie.MeasureT-rows
 abbrev Inv-cycles : tie.InvT-cycles
 Inv-cycles cpi bin fld batch tested₀ relation cycle₀ tested cycle =
     (cycle ≤ cpi) × (tested ≤ relation * 4194304 + cycle * 16384)
-    × (run (met (cycleOf cpi batch)) tested (leftCycles cpi bin fld relation cycle) ≡ run (met (cycleOf cpi batch)) 0 (allParts cpi bin fld 0))
+    × (run (met (cycleOf cpi batch)) tested (leftCycles cpi bin fld relation cycle)
+    ≡ run (met (cycleOf cpi batch)) 0 (allParts cpi bin fld 0))
 
 abbrev μ-cycles : tie.MeasureT-cycles
 μ-cycles cpi bin fld batch tested₀ relation cycle₀ tested cycle = cpi - cycle
@@ -146,7 +150,8 @@ returns c =
 
 returns-2 : tie.Need-returns-2 Inv-rows μ-rows Inv-cycles μ-cycles Inv-relations μ-relations
 returns-2 c =
-    let i = c .before .before in let r = i .before .before .test-row in let b = i .before .before .before .before in let t = b .before .rows in
+    let i = c .before .before in let r = i .before .before .test-row in
+    let b = i .before .before .before .before in let t = b .before .rows in
     let m = at-mark _ (t .at) (b .rows-test .taken) (t .inv .3) in
     rw (c .batch-row .ensures, c .before .relation-of .ensures)
     (run-stop _ _ (row-here _ _ _ _ _ _ (t .at) _ (b .rows-test .taken) (m .0) (r .ensures .ends)) (t .inv .4)
@@ -155,32 +160,7 @@ returns-2 c =
 pub walk-parts-spec : {M : Type 1} → statement M
 walk-parts-spec =
     tie.close
-    (tie.spec
-    Inv-rows
-    μ-rows
-    Inv-cycles
-    μ-cycles
-    Inv-relations
-    μ-relations
-    relations-holds
-    cycles-holds
-    part-at-requires
-    rows-holds
-    mul-mark
-    shared-slice-read-mark
-    add-test-row
-    test-row-requires
-    add-tested
-    relation-of-requires
-    cast-batch-row
-    batch-row-requires
-    rows-less
-    rows-again
-    add-cycle
-    cycles-less
-    cycles-again
-    add-relation
-    relations-less
-    relations-again
-    returns
-    returns-2)
+    (tie.spec Inv-rows μ-rows Inv-cycles μ-cycles Inv-relations μ-relations relations-holds cycles-holds part-at-requires
+    rows-holds mul-mark shared-slice-read-mark add-test-row test-row-requires add-tested relation-of-requires cast-batch-row
+    batch-row-requires rows-less rows-again add-cycle cycles-less cycles-again add-relation relations-less relations-again
+    returns returns-2)

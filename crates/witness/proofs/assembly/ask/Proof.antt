@@ -1,64 +1,41 @@
--- `witness::assembly::ask` meets its contract: each way out peels off the questions before it.
+-- `witness::assembly::ask` meets its contract: questions 1 to 3, and then the one on the cycles.
 -- Assumes nothing.
-use mathlib.Core.Path.{sym, _∙_}
+use mathlib.Core.Path.{sym, ap, _∙_}
 use native.Mathlib.Omega.{arith}
 use borrow.Author.Needs.{needs}
-use borrow.Author.Tests.{eq-eqb, ne-eqb, not-true, not-false}
-use Rattle.layout.specs.Questions.{passed, refused}
-use Rattle.layout.specs.Sizes.{allowed-range}
+use borrow.Author.Tests.{eq-eqb, ne-eqb}
+use Rattle.base.specs.Laws.Tests.{passed, refused}
+use Rattle.layout.specs.declared.Asked.the-variants.{No}
+use Rattle.layout.specs.Laws.Questions.{if-yes, if-no}
+use Rattle.layout.specs.Laws.Sizes.{allowed-range}
 use Rattle.witness.specs.Assembly.{assemblyAsked}
+use Rattle.witness.specs.Laws.Upper.{public-yes}
 use Rattle.witness.proofs.assembly.ask.Statement.{statement}
 use Rattle.witness.proofs.assembly.ask.Tie as tie
 
+mul-if1 : tie.Need-mul-if1
+mul-if1 c =
+    omega (arith, allowed-range _ (public-yes _ _ _ (sym (c .before .before .ask-public .ensures) ∙ c .enum-told .given .1) .0))
+
 returns : tie.Need-returns
 unfolding assemblyAsked
-returns c = refused _ _ _ (sym (c .before .is-allowed .ensures) ∙ not-true _ (c .if1 .taken))
-
-mul-if2 : tie.Need-mul-if2
-mul-if2 c = omega (arith, allowed-range _ (sym (c .before .is-allowed .ensures) ∙ not-false _ (c .if1 .left)))
+returns c =
+    let i = c .before in let t = i .before in
+    ap No (c .refused .ensures) ∙ refused _ _ _ (ne-eqb _ _ (i .if1 .taken))
+    ∙ if-yes No _ (sym (t .before .before .ask-public .ensures) ∙ t .enum-told .given .1)
 
 returns-2 : tie.Need-returns-2
 unfolding assemblyAsked
-returns-2 c =
-    let b = c .before in
-    refused _ _ _ (ne-eqb _ _ (c .if2 .taken)) ∙ passed _ _ _ (sym (b .before .is-allowed .ensures) ∙ not-false _ (b .if1 .left))
-
-sub-public-fits : tie.Need-sub-public-fits
-sub-public-fits c = let b = c .before in omega (arith, allowed-range _ (sym (b .before .is-allowed .ensures) ∙ not-false _ (b .if1 .left)))
+returns-2 c = let r = c .before in if-no No _ (sym (r .before .before .ask-public .ensures) ∙ r .r .given .1)
 
 returns-3 : tie.Need-returns-3
 unfolding assemblyAsked
 returns-3 c =
-    let f = c .before in let q = f .before in let b = q .before in
-    refused _ _ _ (sym (f .public-fits .ensures) ∙ not-true _ (c .if3 .taken)) ∙ passed _ _ _ (eq-eqb _ _ (q .if2 .left))
-    ∙ passed _ _ _ (sym (b .before .is-allowed .ensures) ∙ not-false _ (b .if1 .left))
-
-returns-4 : tie.Need-returns-4
-unfolding assemblyAsked
-returns-4 c =
-    let t = c .before in let f = t .before in let q = f .before in let b = q .before in
-    refused _ _ _ (ne-eqb _ _ (c .if4 .taken)) ∙ passed _ _ _ (sym (f .public-fits .ensures) ∙ not-false _ (t .if3 .left))
-    ∙ passed _ _ _ (eq-eqb _ _ (q .if2 .left)) ∙ passed _ _ _ (sym (b .before .is-allowed .ensures) ∙ not-false _ (b .if1 .left))
-
-returns-5 : tie.Need-returns-5
-unfolding assemblyAsked
-returns-5 c =
-    let t = c .before in let f = t .before in let q = f .before in let b = q .before in
-    passed _ _ _ (eq-eqb _ _ (c .if4 .left)) ∙ passed _ _ _ (sym (f .public-fits .ensures) ∙ not-false _ (t .if3 .left))
-    ∙ passed _ _ _ (eq-eqb _ _ (q .if2 .left)) ∙ passed _ _ _ (sym (b .before .is-allowed .ensures) ∙ not-false _ (b .if1 .left))
+    let t = c .before in
+    passed _ _ _ (eq-eqb _ _ (c .if1 .left)) ∙ if-yes No _ (sym (t .before .before .ask-public .ensures) ∙ t .enum-told .given .1)
 
 pub ask-spec : {M : Type 1} → statement M
 ask-spec =
     tie.close
-    (tie.spec
-    (λ c κs. search needs)
-    returns
-    mul-if2
-    returns-2
-    (λ c. search needs)
-    sub-public-fits
-    (λ c κs. search needs)
-    returns-3
-    (λ c. search needs)
-    returns-4
-    returns-5)
+    (tie.spec (λ c κs. search needs) (λ c. search needs) (λ c. search needs) mul-if1 (λ c κs. search needs) returns returns-2
+    returns-3)

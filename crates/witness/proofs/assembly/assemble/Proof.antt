@@ -4,9 +4,10 @@ use native.Mathlib.Omega.{arith}
 use Prim.Native.Nat.{_*_}
 use denote.Ref.{now}
 use borrow.Author.Needs.{needs}
+use Rattle.layout.specs.Batch.{batchWords}
 use Rattle.witness.specs.Assembly.{cycleWord, assembled}
-use Rattle.witness.specs.Assembled.{half}
-use Rattle.witness.specs.Halves.{halves-written}
+use Rattle.witness.specs.Laws.Assembled.{half}
+use Rattle.witness.specs.Laws.Halves.{halves-written}
 use Rattle.witness.proofs.assembly.assemble.Statement.{statement}
 use Rattle.witness.proofs.assembly.assemble.Tie as tie
 
@@ -18,7 +19,8 @@ unfolding assembled
 returns c =
     let upper = c .before .before in let lower = upper .before .before .before .before in
     let start = lower .before .before .before .before .before in let a = start .args in
-    halves-written (8192 * a .cpi) (2048 * a .cpi) (half (a .cpi)) (cycleWord (a .cpi) (now (a .cycles))) (now (a .public)) (4096 * a .cpi) (omega arith) (a .batch .now) _ _
+    halves-written (batchWords (a .cpi)) (2048 * a .cpi) (half (a .cpi)) (cycleWord (a .cpi) (now (a .cycles))) (now (a .public))
+    (4096 * a .cpi) (omega arith) (a .batch .now) _ _
     (start .pre .1 .0) (lower .write-columns .ensures) (upper .write-upper .ensures)
 
 pub assemble-spec : {M : Type 1} → statement M

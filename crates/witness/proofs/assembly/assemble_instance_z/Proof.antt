@@ -7,7 +7,7 @@ use denote.Ref.{now}
 use borrow.Author.Needs.{needs}
 use Rattle.layout.specs.declared.Asked.{Asked}
 use Rattle.layout.specs.declared.Asked.the-variants.{Yes}
-use Rattle.step.specs.Fill.{after}
+use Rattle.layout.specs.Questions.{after}
 use Rattle.witness.specs.Assembly.{assembled, assemblyCalled}
 use Rattle.witness.proofs.Passed.{all-passed}
 use Rattle.witness.proofs.assembly.assemble_instance_z.Statement.{statement}
@@ -28,7 +28,8 @@ returns c =
 returns-2 : tie.Need-returns-2
 unfolding assemblyCalled
 returns-2 c =
-    let f = c .before .before in let t = f .before .before in let k = t .before .before in let a = k .before .before .before .before .args in
+    let f = c .before .before in let t = f .before .before in let k = t .before .before in
+    let a = k .before .before .before .before .args in
     ap (λ (b : List ℕ). record { answer = Yes; batch = b }) (f .assemble .ensures)
     ∙ ap (λ (q : Asked). after q (assembled (a .cpi) (now (a .cycles)) (now (a .public))) (now (a .batch)))
     (sym (t .enum-told .given .1) ∙ k .ask .ensures)
@@ -36,11 +37,5 @@ returns-2 c =
 pub assemble-instance-z-spec : {M : Type 1} → statement M
 assemble-instance-z-spec =
     tie.close
-    (tie.spec
-    (λ c κs. search needs)
-    (λ c. search needs)
-    (λ c. search needs)
-    assemble-requires
-    returns
-    (λ c. search needs)
+    (tie.spec (λ c κs. search needs) (λ c. search needs) (λ c. search needs) assemble-requires returns (λ c. search needs)
     returns-2)

@@ -8,10 +8,11 @@ use denote.Ref.{now}
 use borrow.Author.Needs.{needs}
 use lib.Arith.{digits-lt}
 use lib.ListN.{length, getD, length-set}
-use Rattle.layout.specs.Sizes.{allowed-range}
+use Rattle.layout.specs.Laws.Sizes.{allowed-range}
 use Rattle.witness.specs.Assembly.{cycleWord}
-use Rattle.witness.specs.Assembled.{word-lent}
-use Rattle.witness.specs.Written.{Written, written-none, written-more, written-to}
+use Rattle.witness.specs.Laws.Assembled.{word-lent}
+use Rattle.base.specs.Written.{Written}
+use Rattle.base.specs.Laws.Written.{written-none, written-more, written-to}
 use Rattle.witness.proofs.assembly.write_column.Statement.{statement}
 use Rattle.witness.proofs.assembly.write_column.Tie as tie
 
@@ -47,9 +48,6 @@ add-lent c = omega (arith, c .before .loop .inv)
 mul-lent-2 : tie.Need-mul-lent-2 Inv-loop μ-loop
 mul-lent-2 c = omega (arith, c .before .loop .inv)
 
-mul-batch : tie.Need-mul-batch Inv-loop μ-loop
-mul-batch c = search needs
-
 shared-slice-read-batch : tie.Need-shared-slice-read-batch Inv-loop μ-loop
 shared-slice-read-batch c = let l = c .before .before in omega (arith, l .before .pre .0 .words)
 
@@ -59,17 +57,11 @@ mul-batch-2 c = omega (arith, c .before .before .loop .inv)
 add-batch : tie.Need-add-batch Inv-loop μ-loop
 add-batch c = omega (arith, c .before .before .loop .inv)
 
-mul-batch-3 : tie.Need-mul-batch-3 Inv-loop μ-loop
-mul-batch-3 c = search needs
-
 slice-write-batch : tie.Need-slice-write-batch Inv-loop μ-loop
 slice-write-batch c = let l = c .before .before in omega (arith, l .loop .inv, l .loop .inv .4 .lengths, l .before .pre .1 .0)
 
 add-batch-2 : tie.Need-add-batch-2 Inv-loop μ-loop
 add-batch-2 c = omega (arith, c .before .before .loop .inv)
-
-mul-batch-4 : tie.Need-mul-batch-4 Inv-loop μ-loop
-mul-batch-4 c = search needs
 
 shared-slice-read-batch-2 : tie.Need-shared-slice-read-batch-2 Inv-loop μ-loop
 shared-slice-read-batch-2 c = let l = c .before .before .before in omega (arith, l .before .pre .0 .words)
@@ -83,11 +75,9 @@ add-batch-3 c = omega (arith, c .before .before .before .loop .inv)
 add-batch-4 : tie.Need-add-batch-4 Inv-loop μ-loop
 add-batch-4 c = omega (arith, c .before .before .before .loop .inv)
 
-mul-batch-6 : tie.Need-mul-batch-6 Inv-loop μ-loop
-mul-batch-6 c = search needs
-
 slice-write-batch-2 : tie.Need-slice-write-batch-2 Inv-loop μ-loop
-slice-write-batch-2 c = let l = c .before .before .before in simp length-set (omega (arith, l .loop .inv, l .loop .inv .4 .lengths, l .before .pre .1 .0))
+slice-write-batch-2 c =
+    let l = c .before .before .before in simp length-set (omega (arith, l .loop .inv, l .loop .inv .4 .lengths, l .before .pre .1 .0))
 
 add-cycle : tie.Need-add-cycle Inv-loop μ-loop
 add-cycle c = omega arith
@@ -117,36 +107,13 @@ same-length c = c .before .loop .inv .4 .lengths
 returns : tie.Need-returns Inv-loop μ-loop
 returns c =
     let l = c .before .loop in let a = c .before .before .args in
-    let end : 2 * (a .column * a .cpi) + 2 * l .cycle ≡ 2 * (a .column * a .cpi) + 2 * a .cpi = omega arith in written-to _ _ _ _ _ _ end (l .inv .4)
+    let end : 2 * (a .column * a .cpi) + 2 * l .cycle ≡ 2 * (a .column * a .cpi) + 2 * a .cpi = omega arith in
+    written-to _ _ _ _ _ _ end (l .inv .4)
 
 pub write-column-spec : {M : Type 1} → statement M
 write-column-spec =
     tie.close
-    (tie.spec
-    Inv-loop
-    μ-loop
-    mul-start
-    mul-start-2
-    loop-holds
-    mul-lent
-    add-lent
-    mul-lent-2
-    mul-batch
-    shared-slice-read-batch
-    mul-batch-2
-    add-batch
-    mul-batch-3
-    slice-write-batch
-    add-batch-2
-    mul-batch-4
-    shared-slice-read-batch-2
-    mul-batch-5
-    add-batch-3
-    add-batch-4
-    mul-batch-6
-    slice-write-batch-2
-    add-cycle
-    loop-less
-    loop-again
-    same-length
-    returns)
+    (tie.spec Inv-loop μ-loop mul-start mul-start-2 loop-holds mul-lent add-lent mul-lent-2 (λ c. search needs)
+    shared-slice-read-batch mul-batch-2 add-batch (λ c. search needs) slice-write-batch add-batch-2 (λ c. search needs)
+    shared-slice-read-batch-2 mul-batch-5 add-batch-3 add-batch-4 (λ c. search needs) slice-write-batch-2 add-cycle loop-less
+    loop-again same-length returns)

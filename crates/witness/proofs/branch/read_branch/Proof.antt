@@ -3,7 +3,7 @@
 use mathlib.Core.Path.{sym, _∙_}
 use borrow.Author.Needs.{needs}
 use borrow.Author.Tests.{eq-eqb, ne-eqb}
-use Rattle.layout.specs.Questions.{passed, refused}
+use Rattle.base.specs.Laws.Tests.{passed, refused}
 use Rattle.witness.specs.Reading.{reading}
 use Rattle.witness.proofs.branch.read_branch.Statement.{statement}
 use Rattle.witness.proofs.branch.read_branch.Tie as tie

@@ -1,7 +1,7 @@
 -- `witness::row::bus_rd` meets its contract: the test is the definition's.
 -- Assumes nothing.
 use borrow.Author.Tests.{eq-eqb, ne-eqb}
-use Rattle.layout.specs.Questions.{passed, refused}
+use Rattle.base.specs.Laws.Tests.{passed, refused}
 use Rattle.witness.proofs.row.bus_rd.Statement.{statement}
 use Rattle.witness.proofs.row.bus_rd.Tie as tie
 

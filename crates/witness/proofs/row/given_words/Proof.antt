@@ -17,4 +17,6 @@ returns c =
     ∙ ap₂ (givenOf (a .cycle) (secondOperand (a .cycle)) (aluOf (a .cycle))) (flags .flags-word .ensures) (c .bus-word .ensures)
 
 pub given-words-spec : {M : Type 1} → statement M
-given-words-spec = tie.close (tie.spec (λ c κs. search needs) (λ c κs. search needs) (λ c κs. search needs) (λ c κs. search needs) returns)
+given-words-spec =
+    tie.close
+    (tie.spec (λ c κs. search needs) (λ c κs. search needs) (λ c κs. search needs) (λ c κs. search needs) returns)

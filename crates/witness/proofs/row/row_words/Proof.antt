@@ -2,9 +2,9 @@
 -- Assumes nothing.
 use mathlib.Core.Path.{ap, ap₂, _∙_}
 use borrow.Author.Needs.{needs}
-use Rattle.step.specs.declared.derive.GivenWords.{GivenWords}
-use Rattle.step.specs.declared.derive.DerivedWords.{DerivedWords}
-use Rattle.step.specs.Fill.Words.{derivedWords}
+use Rattle.filler.specs.declared.derive.GivenWords.{GivenWords}
+use Rattle.filler.specs.declared.derive.DerivedWords.{DerivedWords}
+use Rattle.filler.specs.Words.{derivedWords}
 use Rattle.witness.specs.RowWords.{wordsOf}
 use Rattle.witness.proofs.row.row_words.Statement.{statement}
 use Rattle.witness.proofs.row.row_words.Tie as tie

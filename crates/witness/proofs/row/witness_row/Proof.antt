@@ -8,11 +8,14 @@ use denote.Ref.{now}
 use borrow.Author.Needs.{needs}
 use Rattle.layout.specs.declared.Asked.{Asked}
 use Rattle.layout.specs.declared.Asked.the-variants.{Yes}
-use Rattle.circuit.specs.Rows.{from}
-use Rattle.step.specs.Fill.{after}
-use Rattle.witness.specs.Row.{rowWord, madeRow, rowCalled, row-passed}
-use Rattle.witness.specs.RowWords.{Words, bitIn}
-use Rattle.witness.specs.Carried.{made-by-words}
+use Rattle.base.specs.Lists.{from}
+use Rattle.layout.specs.Questions.{after}
+use Rattle.layout.specs.Batch.{CYCLE-WORDS}
+use Rattle.witness.specs.Row.{rowWord, madeRow, rowCalled}
+use Rattle.witness.specs.Laws.Upper.{public-yes}
+use Rattle.witness.specs.Laws.RowWords.{Words}
+use Rattle.witness.specs.RowWords.{bitIn}
+use Rattle.witness.specs.Laws.Carried.{made-by-words}
 use Rattle.witness.proofs.row.witness_row.Statement.{statement}
 use Rattle.witness.proofs.row.witness_row.Tie as tie
 
@@ -21,11 +24,12 @@ unfolding rowCalled
 returns c =
     let k = c .before .before .before in let a = k .before .before .before .args in
     ap (λ (q : Asked). after q (madeRow (a .cycle) (a .rom) (now (a .public))) (now (a .row)))
-    (sym (c .before .asked .given .1) ∙ k .ask .ensures)
+    (sym (c .before .asked .given .1) ∙ k .ask-public .ensures)
 
 write-row-requires : tie.Need-write-row-requires
 write-row-requires c κs =
-    let t = c .before .before .before in let k = t .before .before in row-passed _ _ (sym (k .ask .ensures) ∙ t .enum-told .given .1)
+    let t = c .before .before .before in let k = t .before .before in
+    public-yes 1 _ _ (sym (k .ask-public .ensures) ∙ t .enum-told .given .1) .1
 
 returns-2 : tie.Need-returns-2
 unfolding rowCalled
@@ -41,22 +45,14 @@ returns-2 c =
       second = omega (arith, start .good);
       out = omega (arith, start .good);
     } in
-    let yes = sym (k .ask .ensures) ∙ t .enum-told .given .1 in
+    let yes = sym (k .ask-public .ensures) ∙ t .enum-told .given .1 in
     ap (λ (b : List ℕ). record { answer = Yes; batch = b })
-    (f .write-row .ensures ∙ ap (λ (ws : List ℕ). from 0 8192 (rowWord (bitIn ws) (now (a .public)))) (made .row-words .ensures)
+    (f .write-row .ensures ∙ ap (λ (ws : List ℕ). from 0 CYCLE-WORDS (rowWord (bitIn ws) (now (a .public)))) (made .row-words .ensures)
     ∙ made-by-words (a .cycle) (a .rom) fit (now (a .public)))
     ∙ ap (λ (q : Asked). after q (madeRow (a .cycle) (a .rom) (now (a .public))) (now (a .row))) (sym yes)
 
 pub witness-row-spec : {M : Type 1} → statement M
 witness-row-spec =
     tie.close
-    (tie.spec
-    (λ c κs. search needs)
-    (λ c. search needs)
-    (λ c. search needs)
-    (λ c κs. search needs)
-    (λ c. search needs)
-    write-row-requires
-    returns
-    (λ c. search needs)
-    returns-2)
+    (tie.spec (λ c κs. search needs) (λ c. search needs) (λ c. search needs) (λ c κs. search needs) (λ c. search needs)
+    write-row-requires returns (λ c. search needs) returns-2)

@@ -4,9 +4,10 @@ use mathlib.Core.Path.{refl}
 use native.Mathlib.Omega.{arith}
 use denote.Ref.{now}
 use borrow.Author.Needs.{needs}
+use Rattle.layout.specs.Batch.{CYCLE-WORDS}
 use Rattle.witness.specs.Row.{bitWord}
 use Rattle.witness.specs.RowWords.{bitIn}
-use Rattle.witness.specs.Halves.{halves-written}
+use Rattle.witness.specs.Laws.Halves.{halves-written}
 use Rattle.witness.proofs.row.write_row.Statement.{statement}
 use Rattle.witness.proofs.row.write_row.Tie as tie
 
@@ -20,7 +21,8 @@ returns : tie.Need-returns
 returns c =
     let upper = c .before .before in let lower = upper .before .before .before .before in
     let start = lower .before .before .before .before .before in let a = start .args in
-    halves-written 8192 2048 refl (bitWord (bitIn (now (a .words)))) (now (a .public)) 4096 refl (a .row .now) _ _ (start .pre .0) (lower .write-words .ensures)
+    halves-written CYCLE-WORDS 2048 refl (bitWord (bitIn (now (a .words)))) (now (a .public)) 4096 refl (a .row .now) _ _ (start .pre .0)
+    (lower .write-words .ensures)
     (upper .write-upper .ensures)
 
 pub write-row-spec : {M : Type 1} → statement M

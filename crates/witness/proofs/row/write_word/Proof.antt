@@ -6,9 +6,11 @@ use native.Mathlib.Nat.{add-zero, div-one}
 use native.Mathlib.Omega.{arith}
 use borrow.Author.Needs.{needs}
 use lib.ListN.{length-set}
-use Rattle.step.specs.Fill.Loops.{half-turn}
-use Rattle.witness.specs.Written.{Written, written-none, written-more, written-to}
-use Rattle.witness.specs.RowWords.{bitsFrom, low-word, high-word}
+use Rattle.base.specs.Laws.Words.{half-turn}
+use Rattle.base.specs.Written.{Written}
+use Rattle.base.specs.Laws.Written.{written-none, written-more, written-to}
+use Rattle.witness.specs.RowWords.{bitsFrom}
+use Rattle.witness.specs.Laws.RowWords.{low-word, high-word}
 use Rattle.witness.proofs.row.write_word.Statement.{statement}
 use Rattle.witness.proofs.row.write_word.Tie as tie
 
@@ -27,9 +29,6 @@ mul-row c = omega arith
 add-row : tie.Need-add-row Inv-loop μ-loop
 add-row c = omega arith
 
-mul-row-2 : tie.Need-mul-row-2 Inv-loop μ-loop
-mul-row-2 c = search needs
-
 slice-write-row : tie.Need-slice-write-row Inv-loop μ-loop
 slice-write-row c = omega arith
 
@@ -41,9 +40,6 @@ add-row-2 c = omega arith
 
 add-row-3 : tie.Need-add-row-3 Inv-loop μ-loop
 add-row-3 c = omega arith
-
-mul-row-4 : tie.Need-mul-row-4 Inv-loop μ-loop
-mul-row-4 c = search needs
 
 slice-write-row-2 : tie.Need-slice-write-row-2 Inv-loop μ-loop
 slice-write-row-2 c = simp length-set (omega (arith, c .before .loop .inv .2 .lengths))
@@ -59,7 +55,8 @@ loop-again c =
     let l = c .before .loop in let a = c .before .before .args in
     let i = l .i in
     let next : a .start + 2 * i + 1 + 1 ≡ a .start + 2 * (i + 1) = omega arith in
-    let low = written-more _ _ _ _ _ (l .rest % 2) (ap (λ (r : ℕ). r % 2) (l .inv .1) ∙ low-word (a .start) (a .w) i) (omega arith) (omega arith) (l .inv .2) in
+    let low = written-more _ _ _ _ _ (l .rest % 2) (ap (λ (r : ℕ). r % 2) (l .inv .1) ∙ low-word (a .start) (a .w) i) (omega arith)
+    (omega arith) (l .inv .2) in
     let both = written-more _ _ _ _ _ 0 (high-word (a .start) (a .w) i) (omega arith) (omega arith) low in
     (omega arith, half-turn (a .w) i (l .inv .1), written-to _ _ _ _ _ _ next both)
 
@@ -74,21 +71,5 @@ returns c =
 pub write-word-spec : {M : Type 1} → statement M
 write-word-spec =
     tie.close
-    (tie.spec
-    Inv-loop
-    μ-loop
-    loop-holds
-    mul-row
-    add-row
-    mul-row-2
-    slice-write-row
-    mul-row-3
-    add-row-2
-    add-row-3
-    mul-row-4
-    slice-write-row-2
-    add-i
-    loop-less
-    loop-again
-    same-length
-    returns)
+    (tie.spec Inv-loop μ-loop loop-holds mul-row add-row (λ c. search needs) slice-write-row mul-row-3 add-row-2 add-row-3
+    (λ c. search needs) slice-write-row-2 add-i loop-less loop-again same-length returns)

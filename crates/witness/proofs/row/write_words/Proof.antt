@@ -5,9 +5,11 @@ use Prim.Native.Nat.{ℕ, _+_, _*_, _-_, _≤_}
 use native.Mathlib.Omega.{arith}
 use denote.Ref.{now}
 use borrow.Author.Needs.{needs}
-use Rattle.witness.specs.Written.{Written, written-none, written-same, written-then, written-to}
+use Rattle.base.specs.Written.{Written}
+use Rattle.base.specs.Laws.Written.{written-none, written-same, written-then, written-to}
 use Rattle.witness.specs.Row.{bitWord}
-use Rattle.witness.specs.RowWords.{bitIn, bitsFrom, word-columns}
+use Rattle.witness.specs.RowWords.{bitIn, bitsFrom}
+use Rattle.witness.specs.Laws.RowWords.{word-columns}
 use Rattle.witness.proofs.row.write_words.Statement.{statement}
 use Rattle.witness.proofs.row.write_words.Tie as tie
 
@@ -38,7 +40,8 @@ loop-again c =
     let words = now (l .before .before .before .args .words) in let j = l .loop .j in
     let next : 128 * j + 128 ≡ 128 * (j + 1) = omega arith in
     let bits = written-same _ (bitWord (bitIn words)) _ _ _ _
-    (λ i h k. ap (λ (w : ℕ). bitsFrom (128 * j) w i) (read .word-or-zero .ensures) ∙ word-columns words j i h k) (piece .write-word .ensures) in
+    (λ i h k. ap (λ (w : ℕ). bitsFrom (128 * j) w i) (read .word-or-zero .ensures) ∙ word-columns words j i h k)
+    (piece .write-word .ensures) in
     (omega arith, written-to _ _ _ _ _ _ next (written-then _ _ _ _ _ _ _ (omega arith) (omega arith) (l .loop .inv .1) bits))
 
 same-length : tie.Need-same-length Inv-loop μ-loop
@@ -50,15 +53,5 @@ returns c = let l = c .before .loop in let end : 128 * l .j ≡ 4096 = omega ari
 pub write-words-spec : {M : Type 1} → statement M
 write-words-spec =
     tie.close
-    (tie.spec
-    Inv-loop
-    μ-loop
-    loop-holds
-    (λ c κs. search needs)
-    mul-write-word
-    write-word-requires
-    add-j
-    loop-less
-    loop-again
-    same-length
-    returns)
+    (tie.spec Inv-loop μ-loop loop-holds (λ c κs. search needs) mul-write-word write-word-requires add-j loop-less loop-again
+    same-length returns)

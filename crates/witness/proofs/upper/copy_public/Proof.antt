@@ -7,8 +7,10 @@ use native.Mathlib.Omega.{arith}
 use denote.Ref.{now}
 use borrow.Author.Needs.{needs}
 use lib.ListN.{length, getD}
-use Rattle.witness.specs.Upper.{upperFrom, public-word}
-use Rattle.witness.specs.Written.{Written, written-none, written-more, written-to}
+use Rattle.witness.specs.Upper.{upperFrom}
+use Rattle.witness.specs.Laws.Upper.{public-word}
+use Rattle.base.specs.Written.{Written}
+use Rattle.base.specs.Laws.Written.{written-none, written-more, written-to}
 use Rattle.witness.proofs.upper.copy_public.Statement.{statement}
 use Rattle.witness.proofs.upper.copy_public.Tie as tie
 
@@ -21,9 +23,6 @@ abbrev μ-loop : tie.MeasureT-loop
 loop-holds : tie.Need-loop-holds Inv-loop μ-loop
 loop-holds c = (omega arith, written-to _ _ _ _ _ _ (sym (add-zero _)) (written-none _ _ _))
 
-mul-out : tie.Need-mul-out Inv-loop μ-loop
-mul-out c = search needs
-
 shared-slice-read-out : tie.Need-shared-slice-read-out Inv-loop μ-loop
 shared-slice-read-out c = omega arith
 
@@ -32,9 +31,6 @@ add-out c = omega arith
 
 add-out-2 : tie.Need-add-out-2 Inv-loop μ-loop
 add-out-2 c = omega arith
-
-mul-out-2 : tie.Need-mul-out-2 Inv-loop μ-loop
-mul-out-2 c = search needs
 
 slice-write-out : tie.Need-slice-write-out Inv-loop μ-loop
 slice-write-out c = omega arith
@@ -66,18 +62,5 @@ returns c =
 pub copy-public-spec : {M : Type 1} → statement M
 copy-public-spec =
     tie.close
-    (tie.spec
-    Inv-loop
-    μ-loop
-    loop-holds
-    mul-out
-    shared-slice-read-out
-    add-out
-    add-out-2
-    mul-out-2
-    slice-write-out
-    add-i
-    loop-less
-    loop-again
-    same-length
-    returns)
+    (tie.spec Inv-loop μ-loop loop-holds (λ c. search needs) shared-slice-read-out add-out add-out-2 (λ c. search needs)
+    slice-write-out add-i loop-less loop-again same-length returns)

@@ -1,7 +1,7 @@
 -- `witness::upper::public_fits` meets its contract: it asks the definition's two tests in its order.
 -- Assumes nothing.
 use borrow.Author.Tests.{eq-eqb, ne-eqb}
-use Rattle.layout.specs.Questions.{passed, refused}
+use Rattle.base.specs.Laws.Tests.{passed, refused}
 use Rattle.witness.specs.Upper.{publicFits}
 use Rattle.witness.proofs.upper.public_fits.Statement.{statement}
 use Rattle.witness.proofs.upper.public_fits.Tie as tie

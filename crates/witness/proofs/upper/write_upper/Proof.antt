@@ -4,7 +4,7 @@ use native.Mathlib.Omega.{arith}
 use denote.Ref.{now}
 use borrow.Author.Needs.{needs}
 use lib.ListN.{length-set}
-use Rattle.witness.specs.Halves.{room-left, upper-written}
+use Rattle.witness.specs.Laws.Halves.{room-left, upper-written}
 use Rattle.witness.proofs.upper.write_upper.Statement.{statement}
 use Rattle.witness.proofs.upper.write_upper.Tie as tie
 
@@ -36,15 +36,5 @@ returns c =
 pub write-upper-spec : {M : Type 1} → statement M
 write-upper-spec =
     tie.close
-    (tie.spec
-    (λ c. search needs)
-    (λ c. omega arith)
-    (λ c. omega arith)
-    (λ c. search needs)
-    slice-write-out-2
-    copy-public-requires
-    (λ c. omega arith)
-    (λ c. omega arith)
-    clear-from-requires
-    same-length
-    returns)
+    (tie.spec (λ c. search needs) (λ c. omega arith) (λ c. omega arith) (λ c. search needs) slice-write-out-2
+    copy-public-requires (λ c. omega arith) (λ c. omega arith) clear-from-requires same-length returns)

@@ -1,0 +1,60 @@
+-- What is so of every element, of lists put together, taken apart or mapped; and of every number below a limit.
+-- Assumes nothing.
+use mathlib.Core.Path.{_≡_, sym, subst}
+use mathlib.Core.Bool.{Bool, true}
+use mathlib.Core.List.{List, [], _∷_, _++_, map}
+use mathlib.Core.Logic.{_↔_, ⊎-elim}
+use Prim.Native.Nat.{ℕ, zero, suc, _<_}
+use native.Mathlib.Nat.{not-suc-le-zero, eq-or-lt-of-le, le-of-suc-le-suc}
+use Rattle.base.specs.Lists.{All, joined, allBelow}
+use Rattle.base.specs.Laws.Tests.{both}
+
+-- ---- their laws
+
+module _ {A : Type 0} (P : A → Type 0) where
+  pub all-append : (xs ys : List A) → All P xs → All P ys → All P (xs ++ ys)
+  all-append [] ys p q = q
+  all-append (x ∷ xs) ys p q = (p .0, all-append xs ys (p .1) q)
+
+  pub all-left : (xs ys : List A) → All P (xs ++ ys) → All P xs
+  all-left [] ys p = tt
+  all-left (x ∷ xs) ys p = (p .0, all-left xs ys (p .1))
+
+  pub all-right : (xs ys : List A) → All P (xs ++ ys) → All P ys
+  all-right [] ys p = p
+  all-right (x ∷ xs) ys p = all-right xs ys (p .1)
+
+  pub all-joined : (xss : List (List A)) → All P (joined xss) ↔ All (All P) xss
+  unfolding joined
+  all-joined [] = (λ h. h, λ h. h)
+  all-joined (xs ∷ xss) = (
+    λ h. (all-left xs (joined xss) h, all-joined xss .0 (all-right xs (joined xss) h)),
+    λ h. all-append xs (joined xss) (h .0) (all-joined xss .1 (h .1)),
+  )
+
+  -- one element in place of another that says the same
+  pub all-swap : (xs ys : List A) (s t : A) → P s ↔ P t → All P (xs ++ (s ∷ ys)) ↔ All P (xs ++ (t ∷ ys))
+  all-swap xs ys s t e = (
+    λ h. let k = all-right xs (s ∷ ys) h in all-append xs (t ∷ ys) (all-left xs (s ∷ ys) h) (e .0 (k .0), k .1),
+    λ h. let k = all-right xs (t ∷ ys) h in all-append xs (s ∷ ys) (all-left xs (t ∷ ys) h) (e .1 (k .0), k .1),
+  )
+
+  -- what is so of all there is
+  pub all-every : ((x : A) → P x) → (xs : List A) → All P xs
+  all-every f [] = tt
+  all-every f (x ∷ xs) = (f x, all-every f xs)
+
+-- what follows of each
+pub all-then : {A : Type 0} (P Q : A → Type 0) → ((x : A) → P x → Q x) → (xs : List A) → All P xs → All Q xs
+all-then P Q f [] p = tt
+all-then P Q f (x ∷ xs) p = (f x (p .0), all-then P Q f xs (p .1))
+
+pub all-map : {A B : Type 0} (P : B → Type 0) (f : A → B) (xs : List A) → All P (map f xs) ↔ All (λ x. P (f x)) xs
+all-map P f [] = (λ h. h, λ h. h)
+all-map P f (x ∷ xs) = let k = all-map P f xs in (λ h. (h .0, k .0 (h .1)), λ h. (h .0, k .1 (h .1)))
+
+pub below-at : (n : ℕ) (f : ℕ → Bool) → allBelow n f ≡ true → (i : ℕ) → i < n → f i ≡ true
+below-at zero f t i l = absurd (not-suc-le-zero l)
+below-at (suc n) f t i l =
+    let p = both (f n) (allBelow n f) t in
+    ⊎-elim (λ e. subst (λ (k : ℕ). f k ≡ true) (sym e) (p .0)) (λ k. below-at n f (p .1) i k) (eq-or-lt-of-le (le-of-suc-le-suc l))

@@ -1,0 +1,1 @@
+// What is of no field and no layout, for every crate above.

@@ -1,0 +1,73 @@
+-- The answer's word loses nothing but the count of a failure.
+-- Assumes nothing.
+use mathlib.Core.Path.{_≡_, refl, sym, ap, subst, _∙_}
+use mathlib.Core.Bool.{Bool, true, false, cond, _&&_}
+use mathlib.Core.List.{List, [], _∷_, _++_}
+use Prim.Native.Nat.{ℕ, _<_}
+use native.Mathlib.Omega.{arith}
+use borrow.Author.Tests.{ltb-true}
+use lib.Dec.{ltb, eqb}
+use lib.ListN.{length, length-append}
+use Rattle.base.specs.Lists.{joined, from, fromEach}
+use Rattle.base.specs.Laws.Tests.{both}
+use Rattle.layout.specs.Batch.{CYCLE-WORDS}
+use Rattle.layout.specs.Questions.{no}
+use Rattle.layout.specs.Laws.Questions.{if-yes}
+use Rattle.circuit.specs.Rows.{Row, numbered}
+use Rattle.circuit.specs.Circuit.{binFamilies, fldFamilies, circuitRows, circuitWords}
+use Rattle.circuit.specs.Parse.{rowsOf}
+use Rattle.circuit.specs.Laws.House.{words-read, counts}
+use Rattle.verdict.specs.declared.CheckAnswer.the-variants.{Refused}
+use Rattle.verdict.specs.Row.{cycleOf}
+use Rattle.verdict.specs.Check.{Constraint, ofRelation, constraints, met, run, judged, houseChecked}
+use Rattle.verdict.specs.Laws.Verdicts.{Outcome, all-met, one-fails, outcome, constraint-count}
+use Rattle.cellprism.specs.Bytes.{wordsOf}
+use Rattle.cellprism.specs.Answer.{rowChecked}
+use Rattle.cellprism.specs.Exact.{rowOf, Small, Exact}
+use Rattle.cellprism.specs.Laws.Packing.{row-asked}
+
+rowsFit : List Constraint → Bool
+rowsFit [] = true
+rowsFit (k ∷ ks) = ltb (rowOf k) 512 && rowsFit ks
+
+-- the computed test
+house-fits : rowsFit (constraints 1 circuitRows) ≡ true
+unfolding rowsFit constraints ofRelation circuitRows binFamilies fldFamilies from fromEach joined numbered
+house-fits = refl
+
+row-fits : (xs ys : List Constraint) (k : Constraint) → rowsFit (xs ++ (k ∷ ys)) ≡ true → rowOf k < 512
+unfolding rowsFit
+row-fits [] ys k h = ltb-true (rowOf k) 512 (both (ltb (rowOf k) 512) (rowsFit ys) h .0)
+row-fits (x ∷ xs) ys k h = row-fits xs ys k (both (ltb (rowOf x) 512) (rowsFit (xs ++ (k ∷ ys))) h .1)
+
+judged-small : (batch : List ℕ) → Small (judged 1 circuitWords batch)
+unfolding judged
+judged-small batch = go (outcome test ks 0)
+  where
+    test : Constraint → Bool
+    test = met (cycleOf 1 batch)
+
+    ks : List Constraint
+    ks = constraints 1 (rowsOf circuitWords)
+
+    fit : rowsFit ks ≡ true
+    fit = ap (λ (rs : List Row). rowsFit (constraints 1 rs)) words-read ∙ house-fits
+
+    few : length ks ≡ 514
+    few = omega (arith, constraint-count 1 (rowsOf circuitWords), ap length words-read, counts .rows)
+
+    go : Outcome test 0 ks (run test 0 ks) → Small (run test 0 ks)
+    go (all-met p e) = subst Small (sym e) (omega (arith, few))
+    go (one-fails f) =
+        subst Small (sym (f .says)) (
+          row-fits (f .earlier) (f .later) (f .first) (ap rowsFit (sym (f .order)) ∙ fit),
+          omega (arith, few, ap length (f .order), length-append (f .earlier) (f .first ∷ f .later)),
+        )
+
+pub exact : (bytes : List ℕ) → Exact (rowChecked bytes)
+unfolding rowChecked houseChecked
+exact bytes = by-test (eqb (length bytes) 65536)
+  where
+    by-test : (b : Bool) → Exact (cond b (houseChecked 1 (wordsOf CYCLE-WORDS bytes)) (Refused (no 2 0)))
+    by-test true = subst Exact (if-yes Refused _ (row-asked bytes)) (judged-small (wordsOf CYCLE-WORDS bytes))
+    by-test false = refl

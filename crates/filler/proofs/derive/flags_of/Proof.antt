@@ -1,0 +1,14 @@
+-- `filler::derive::flags_of` meets its contract: each flag is the bit that is read.
+-- Assumes nothing.
+use borrow.Author.Needs.{needs}
+use Rattle.filler.proofs.derive.flags_of.Statement.{statement}
+use Rattle.filler.proofs.derive.flags_of.Tie as tie
+
+returns : tie.Need-returns
+returns c = cc
+
+pub flags-of-spec : {M : Type 1} → statement M
+flags-of-spec =
+    tie.close
+    (tie.spec (λ c κs. search needs) (λ c κs. search needs) (λ c κs. search needs) (λ c κs. search needs) (λ c κs. search needs)
+    returns)

@@ -1,0 +1,14 @@
+-- `filler::fill::read_given` meets its contract: each word is the one that is read.
+-- Assumes nothing.
+use borrow.Author.Needs.{needs}
+use Rattle.filler.proofs.fill.read_given.Statement.{statement}
+use Rattle.filler.proofs.fill.read_given.Tie as tie
+
+returns : tie.Need-returns
+returns c = cc
+
+pub read-given-spec : {M : Type 1} → statement M
+read-given-spec =
+    tie.close
+    (tie.spec (λ c κs. search needs) (λ c κs. search needs) (λ c κs. search needs) (λ c κs. search needs) (λ c κs. search needs)
+    (λ c κs. search needs) (λ c κs. search needs) (λ c κs. search needs) returns)

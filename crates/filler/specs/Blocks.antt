@@ -1,0 +1,16 @@
+-- Words put into blocks of a cycle's columns, and what a batch holds then.
+-- Assumes nothing.
+use mathlib.Core.List.{List, [], _∷_}
+use Prim.Native.Nat.{ℕ, zero, suc, _+_, _*_}
+use Rattle.base.specs.Bits.{bitAt}
+use Rattle.base.specs.Blocks.{Block}
+use Rattle.step.specs.Filling.{put}
+
+-- the low n bits of w put into the n columns from o on, of cycle d
+unfoldable pub putWord : ℕ → ℕ → ℕ → ℕ → ℕ → List ℕ → List ℕ
+putWord cpi d o w zero batch = batch
+putWord cpi d o w (suc n) batch = put (putWord cpi d o w n batch) ((o + n) * cpi + d) (bitAt w n)
+
+abbrev pub putBlocks : ℕ → ℕ → List Block → List ℕ → List ℕ
+putBlocks cpi d [] batch = batch
+putBlocks cpi d (k ∷ ks) batch = putBlocks cpi d ks (putWord cpi d (k .column) (k .word) (k .width) batch)

@@ -1,0 +1,147 @@
+-- Which step condition is the first that a cycle does not meet: the ten of `Step` again, as the tests of a cycle's words that the code
+-- makes and its contracts cite. Each proves every test true exactly when the condition of its number holds, First that all are met
+-- exactly when the record of the conditions holds. Read has what the code reads.
+-- Assumes nothing.
+use mathlib.Core.Bool.{Bool, true, false, not, cond, _&&_, _||_}
+use mathlib.Core.List.{List, [], _∷_}
+use Prim.Native.Nat.{ℕ, _+_, _-_, _*_, _/_, _%_, _^_}
+use lib.Dec.{eqb, ltb}
+use lib.ListN.{getD}
+use Rattle.base.specs.Bits.{digit, _⊻_, word, bitAt}
+use Rattle.base.specs.Tests.{firstFrom}
+use Rattle.field.specs.declared.Gf128.{Gf128}
+use Rattle.field.specs.Gf.{ofWords, same}
+use Rattle.layout.specs.Columns.{ONE-COL, RS1, RD, LOAD-VAL, SHIFT-OUT, T1, T2, ALU, FLAGS, OFF, SUB, WE, IS-LOAD, IS-STORE, IS-ARITH, IS-SHIFT, LD-BYTE, LD-HALF, LD-WORD, RAM-ADDR}
+use Rattle.layout.specs.Questions.{no, ifYes}
+use Rattle.verdict.specs.Row.{cycleOf, bitsOf}
+use Rattle.step.specs.Step.{opcode, offset}
+use Rattle.step.specs.Fill.{fillAsked}
+use Rattle.filler.specs.declared.conditions.StepAnswer.{StepAnswer}
+use Rattle.filler.specs.declared.conditions.StepAnswer.the-variants.{Meets, Unmet, Refused}
+use Rattle.filler.specs.declared.conditions.StepWords.{StepWords}
+use Rattle.filler.specs.declared.conditions.StepFlags.{StepFlags}
+
+-- ---- what the conditions read of a cycle
+
+abbrev pub wordsOf : (ℕ → Bool) → StepWords
+wordsOf b =
+    record {
+      rs1 = word b RS1 64;
+      rd = word b RD 64;
+      «load_val» = word b LOAD-VAL 64;
+      «shift_out» = word b SHIFT-OUT 64;
+      t1 = word b T1 64;
+      t2 = word b T2 64;
+      alu = word b ALU 64;
+      opcode = opcode b;
+    }
+
+abbrev pub flagsOf : (ℕ → Bool) → StepFlags
+flagsOf b =
+    record {
+      sub = b SUB;
+      we = b WE;
+      «is_load» = b IS-LOAD;
+      «is_store» = b IS-STORE;
+      «is_arith» = b IS-ARITH;
+      «is_shift» = b IS-SHIFT;
+      «ld_byte» = b LD-BYTE;
+      «ld_half» = b LD-HALF;
+      «ld_word» = b LD-WORD;
+      off = offset b;
+      «ram_addr» = word b RAM-ADDR 8;
+    }
+
+-- the same of the word of columns 768 on, where the code finds them
+abbrev pub flagsIn : ℕ → StepFlags
+flagsIn w =
+    record {
+      sub = bitAt w (SUB - FLAGS);
+      we = bitAt w (WE - FLAGS);
+      «is_load» = bitAt w (IS-LOAD - FLAGS);
+      «is_store» = bitAt w (IS-STORE - FLAGS);
+      «is_arith» = bitAt w (IS-ARITH - FLAGS);
+      «is_shift» = bitAt w (IS-SHIFT - FLAGS);
+      «ld_byte» = bitAt w (LD-BYTE - FLAGS);
+      «ld_half» = bitAt w (LD-HALF - FLAGS);
+      «ld_word» = bitAt w (LD-WORD - FLAGS);
+      off = w / 2 ^ (OFF - FLAGS) % 2 ^ 3;
+      «ram_addr» = w / 2 ^ (RAM-ADDR - FLAGS) % 2 ^ 8;
+    }
+
+-- ---- the conditions, each as "where this, that"
+
+infixr 20 _⇒_
+abbrev pub _⇒_ : Bool → Bool → Bool
+p ⇒ q = not p || q
+
+-- byte k of a word
+unfoldable pub byteOf : ℕ → ℕ → ℕ
+byteOf x k = x / 2 ^ (8 * k) % 2 ^ 8
+
+module _ (w : StepWords) (f : StepFlags) where
+  abbrev pub arithmetic : Bool
+  arithmetic = f .«is_arith» ⇒ eqb (w .alu) ((w .t1 + w .t2 + digit (f .sub)) % 2 ^ 64)
+
+  abbrev pub shift : Bool
+  shift = f .«is_shift» ⇒ eqb (w .alu) (w .«shift_out»)
+
+  abbrev pub write : Bool
+  write = f .we && not (f .«is_load») ⇒ eqb (w .rd) (w .alu)
+
+  abbrev pub loadWord : Bool
+  loadWord = f .«ld_word» ⇒ eqb (w .rd) (w .«load_val»)
+
+  abbrev pub loadByte : Bool
+  loadByte = f .«ld_byte» ⇒ eqb (byteOf (w .rd) 0) (byteOf (w .«load_val») (f .off))
+
+  abbrev pub loadHalf : Bool
+  loadHalf =
+      f .«ld_half»
+      ⇒ eqb (byteOf (w .rd) 0) (byteOf (w .«load_val») (f .off)) && eqb (byteOf (w .rd) 1) (byteOf (w .«load_val») ((f .off + 1) % 8))
+
+  abbrev pub upperZero : Bool
+  upperZero = f .«is_load» && not (f .«ld_word») ⇒ eqb (w .rd / 2 ^ 16) 0
+
+  abbrev pub secondZero : Bool
+  secondZero = f .«is_load» && not (f .«ld_word») && not (f .«ld_half») ⇒ eqb (byteOf (w .rd) 1) 0
+
+  abbrev pub address : Bool
+  address = (f .«is_load» ⊻ f .«is_store») ⇒ eqb (f .«ram_addr») (w .alu / 2 ^ 3 % 2 ^ 8)
+
+abbrev pub system : StepWords → Gf128 → Bool
+system w output = eqb (w .opcode) 0x73 ⇒ eqb (w .rd) (w .rs1) && same output (ofWords (w .rd) 0)
+
+-- in document 01's order
+unfoldable pub conditions : StepWords → StepFlags → Gf128 → List Bool
+conditions w f output =
+    arithmetic w f ∷ shift w f ∷ write w f ∷ system w output ∷ loadWord w f
+    ∷ loadByte w f ∷ loadHalf w f ∷ upperZero w f ∷ secondZero w f ∷ address w f ∷ []
+
+-- all of them are met
+abbrev pub allTrue : List Bool → Bool
+allTrue [] = true
+allTrue (t ∷ ts) = t && allTrue ts
+
+-- number k of them, counted from 1
+abbrev pub numbered : List Bool → ℕ → Bool
+numbered met k = getD met (k - 1) false
+
+-- the first that is not met
+abbrev pub named : ℕ → StepAnswer
+named k = cond (ltb k 11) (Unmet k) Meets
+
+unfoldable pub firstFalse : List Bool → StepAnswer
+firstFalse met = named (firstFrom (λ k. not (numbered met k)) 1 10)
+
+-- of a cycle: of its bits, and of the public element one_col + 1
+unfoldable pub firstUnmet : (ℕ → Bool) → Gf128 → StepAnswer
+firstUnmet b output = firstFalse (conditions (wordsOf b) (flagsOf b) output)
+
+-- ---- as it is called: questions 1, 2, 11, 12 and 15
+
+abbrev pub ifInside : ℕ → List ℕ → ℕ → StepAnswer
+ifInside cpi batch d = cond (ltb d cpi) (firstUnmet (bitsOf cpi batch d) (cycleOf cpi batch d (ONE-COL + 1))) (Refused (no 15 0))
+
+unfoldable pub stepAnswer : ℕ → List ℕ → ℕ → StepAnswer
+stepAnswer cpi batch d = ifYes Refused (fillAsked cpi batch) (ifInside cpi batch d)

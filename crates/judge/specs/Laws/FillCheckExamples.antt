@@ -1,0 +1,96 @@
+-- Filling and checking, of given batches: of every size one that is accepted, and one that fails by what stands in any one cycle; rows
+-- whose verdict is known; and calls that are refused.
+-- Assumes nothing.
+use mathlib.Core.Path.{_≡_, refl, sym, ap, _∙_}
+use mathlib.Core.Bool.{Bool, true, false}
+use mathlib.Core.List.{List, [], _∷_}
+use Prim.Native.Nat.{ℕ, _+_, _*_, _<_}
+use lib.ListN.{replicate}
+use Rattle.field.specs.Gf.{ofWords, isBit}
+use Rattle.layout.specs.declared.Asked.the-variants.{Yes}
+use Rattle.layout.specs.Batch.{SCRATCH-WORDS, allowed, batchWords, batchAsked}
+use Rattle.layout.specs.Questions.{no, Called}
+use Rattle.layout.specs.Laws.Questions.{some-scratch}
+use Rattle.layout.specs.Laws.Sizes.{allowed-range}
+use Rattle.verdict.specs.declared.Verdict.{Verdict}
+use Rattle.verdict.specs.declared.Verdict.the-variants.{Accepted}
+use Rattle.verdict.specs.declared.CheckAnswer.{CheckAnswer}
+use Rattle.verdict.specs.declared.CheckAnswer.the-variants.{Judged, Refused}
+use Rattle.verdict.specs.Check.{Checked, houseChecked}
+use Rattle.verdict.specs.Laws.Agree.{house-agrees}
+use Rattle.step.specs.Derived.{derived}
+use Rattle.step.specs.Filling.{filled}
+use Rattle.step.specs.Demand3.{fails}
+use Rattle.step.specs.Fill.{fillAsked, called}
+use Rattle.step.specs.Laws.FilledRow.{Gives}
+use Rattle.step.specs.Laws.FillAnswers.{passes, passed-all}
+use Rattle.step.specs.Laws.FillRefusals.{refuses}
+use Rattle.step.specs.Laws.Chosen.{batchOf, premises-of}
+use Rattle.step.specs.Laws.Clauses.{replaced, idle, shiftsIn, shift-meets-not}
+use Rattle.judge.specs.FillCheck.{FillChecked, answerAfter, fillChecked, Promised}
+use Rattle.judge.specs.Laws.Examples.{batch-examples}
+use Rattle.judge.specs.Laws.FillCheck.{is-judged, fill-promised}
+
+-- a batch is refused with a number and a place, and stays as it came
+abbrev pub RefusedAs : ℕ → ℕ → ℕ → List ℕ → Type 0
+RefusedAs cpi k place batch = fillChecked cpi batch ≡ record { answer = Refused (no k place); batch = batch }
+
+pub record OfSize (cpi : ℕ) : Type 0 where
+  pub accepted : fillChecked cpi (idle cpi) ≡ record { answer = Judged (Accepted (514 * cpi)); batch = filled cpi (idle cpi) }
+  -- in cycle k condition 2 is not met
+  pub failed : (k : ℕ) → k < cpi → fails (fillChecked cpi (batchOf cpi (shiftsIn k)) .answer) ≡ true
+  -- questions 11 and 12: a given column that is no bit, whatever bits stand elsewhere; the one column 0
+  pub no-bit : (b : ℕ → ℕ → Bool) (c d l h : ℕ) → c < 2048 → derived c ≡ false → d < cpi → isBit (ofWords l h) ≡ false
+      → RefusedAs cpi 11 (c * cpi + d) (replaced (batchOf cpi b) (c * cpi + d) l h)
+  pub no-one : RefusedAs cpi 12 0 (replicate (batchWords cpi) 0)
+
+-- questions 1 and 2
+pub record Refusals : Type 0 where
+  pub no-size : RefusedAs 3 1 0 []
+  pub no-words : RefusedAs 2 2 0 (7 ∷ [])
+
+-- what the filler's call comes to
+as-called : (cpi : ℕ) (batch : List ℕ) {c : Called} → called cpi batch ≡ c
+    → fillChecked cpi batch ≡ record { answer = answerAfter cpi (c .answer) (c .batch); batch = c .batch }
+unfolding fillChecked
+as-called cpi batch e = ap (λ (c : Called). record { answer = answerAfter cpi (c .answer) (c .batch); batch = c .batch }) e
+
+module _ (cpi : ℕ) (size : allowed cpi ≡ true) where
+  some : 0 < cpi
+  some = allowed-range cpi size .0
+
+  -- of a choice of bits
+  module _ (b : ℕ → ℕ → Bool) where
+    yes : fillAsked cpi (batchOf cpi b) ≡ Yes
+    yes = passed-all cpi (batchOf cpi b) (passes cpi (batchOf cpi b) size (premises-of cpi some b))
+
+    call : Promised cpi (batchOf cpi b) (houseChecked cpi (filled cpi (batchOf cpi b))) (filled cpi (batchOf cpi b))
+    call = fill-promised cpi (batchOf cpi b) (premises-of cpi some b .fit) yes
+
+    answer-is : fillChecked cpi (batchOf cpi b) .answer ≡ houseChecked cpi (filled cpi (batchOf cpi b))
+    answer-is = ap (λ (c : FillChecked). c .answer) (sym (call .result))
+
+  pub of-size : OfSize cpi
+  of-size =
+      record {
+        accepted = sym (call (λ d c. false) .result)
+            ∙ ap (λ (a : CheckAnswer). record { answer = a; batch = filled cpi (idle cpi) })
+            (is-judged cpi (idle cpi) (premises-of cpi some (λ d c. false) .fit) (yes (λ d c. false))
+            ∙ ap Judged (batch-examples cpi some .accepted size));
+        failed = λ k l. ap fails (answer-is (shiftsIn k)) ∙ call (shiftsIn k) .failed .1 (yes (shiftsIn k), shift-meets-not cpi some k l);
+        no-bit = λ b c d l h m e n above.
+            as-called cpi (replaced (batchOf cpi b) (c * cpi + d) l h) (refuses cpi size .no-bit b c d l h m e n above);
+        no-one = as-called cpi (replicate (batchWords cpi) 0) (refuses cpi size .no-one);
+      }
+
+-- a row that the filler fills as called, and the verdict on it: the bench sheet cites this of P6 to P9
+pub filled-and-judged : {row : List ℕ} {v : Verdict} → Gives row v → fillChecked 1 row ≡ record { answer = Judged v; batch = filled 1 row }
+filled-and-judged {row} {v} g =
+    as-called 1 row (g .fill)
+    ∙ ap (λ (a : CheckAnswer). record { answer = a; batch = filled 1 row })
+    (house-agrees 1 (filled 1 row) (replicate SCRATCH-WORDS 0) some-scratch
+    ∙ ap (λ (c : Checked). c .answer) (g .check (replicate SCRATCH-WORDS 0) some-scratch))
+
+pub refusals : Refusals
+unfolding fillChecked called fillAsked batchAsked allowed
+refusals = record { no-size = refl; no-words = refl }

@@ -1,0 +1,149 @@
+-- Over bits, every cycle is judged with yes exactly when the check accepts.
+-- Assumes nothing.
+use mathlib.Core.Path.{_≡_, refl, sym, ap, subst, _∙_}
+use mathlib.Core.Logic.{_↔_}
+use mathlib.Core.Bool.{Bool, true}
+use mathlib.Core.List.{List, []}
+use Prim.Native.Nat.{ℕ, _+_, _*_, _/_, _%_, _^_, _≤_, _<_}
+use native.Mathlib.Nat.{mod-lt, div-add-mod', div-lt-iff-lt-mul}
+use native.Mathlib.Decide.{decLt}
+use native.Mathlib.Omega.{arith}
+use lib.Arith.{digits-lt}
+use lib.Dec.{eqb}
+use lib.ListN.{length, getD}
+use Rattle.base.specs.Lists.{All}
+use Rattle.base.specs.Laws.Values.{digit-lt}
+use Rattle.field.specs.declared.Gf128.{Gf128}
+use Rattle.field.specs.Gf.{low, isBit, odd, ofBit}
+use Rattle.field.specs.Gf.Tests.{isBit-true}
+use Rattle.field.specs.Gf.Bits.{as-bit, bit-words}
+use Rattle.field.specs.Gf.Laws.{words-injective}
+use Rattle.layout.specs.Columns.{ONE-COL}
+use Rattle.layout.specs.Batch.{allowed}
+use Rattle.layout.specs.Laws.Sizes.{allowed-range}
+use Rattle.layout.specs.Laws.Mapping.{witness-column}
+use Rattle.circuit.specs.Circuit.{circuitWords}
+use Rattle.circuit.specs.Parse.{rowsOf}
+use Rattle.circuit.specs.Laws.House.{words-read, counts}
+use Rattle.verdict.specs.declared.Verdict.the-variants.{Accepted}
+use Rattle.verdict.specs.Row.{elementAt, cycleOf, bitsOf}
+use Rattle.verdict.specs.Check.{judged}
+use Rattle.verdict.specs.Laws.Verdicts.{EveryRowHolds}
+use Rattle.step.specs.Step.{Step}
+use Rattle.step.specs.Derived.{derived}
+use Rattle.step.specs.Solve.{Holds}
+use Rattle.step.specs.Determining.{determining, filledBits}
+use Rattle.step.specs.Filling.{SameElsewhere, filling, fillerBits, filled}
+use Rattle.step.specs.Demand3.{Premises}
+use Rattle.step.specs.Laws.Derived.{derived-below}
+use Rattle.step.specs.Laws.Determining.{filled-only}
+use Rattle.step.specs.Laws.FillingElements.{each-word, is-filling}
+use Rattle.step.specs.Laws.Batch.{RowsHold, one-bit, split, is-filled, rows-or-conditions}
+use Rattle.step.specs.Laws.Listings.{cycle-rows, house}
+use Rattle.judge.specs.Judged.{judgedCycle, JudgedYes}
+use Rattle.judge.specs.Judges.{OverBits}
+use Rattle.judge.specs.Laws.Exactly.{judged-exactly}
+use Rattle.verdict.specs.Laws.Verdicts as verdicts
+
+-- the words of bits fit, and so do others' words where elements are the same
+pub bits-fit : (cpi : ℕ) (u w : List ℕ) → ((x : ℕ) → x < 2048 * cpi → isBit (elementAt u x) ≡ true)
+    → ((x : ℕ) → 2048 * cpi ≤ x → elementAt u x ≡ elementAt w x) → ((i : ℕ) → getD w i 0 < 2 ^ 64) → (i : ℕ) → getD u i 0 < 2 ^ 64
+bits-fit cpi u w bits same fit = each-word (λ (i : ℕ). getD u i 0 < 2 ^ 64) (λ x. go x (decLt x (2048 * cpi)))
+  where
+    go : (x : ℕ) → Dec (x < 2048 * cpi) → (getD u (2 * x) 0 < 2 ^ 64) × (getD u (2 * x + 1) 0 < 2 ^ 64)
+    go x (yes l) =
+        let b = odd (elementAt u x) in let e = words-injective _ _ _ _ (isBit-true (elementAt u x) (bits x l) ∙ sym (bit-words b)) in
+        (omega (arith, e .0, digit-lt b), omega (arith, e .1))
+    go x (no f) =
+        let e = words-injective _ _ _ _ (same x (omega arith)) in (omega (arith, e .0, fit (2 * x)), omega (arith, e .1, fit (2 * x + 1)))
+
+module _ (cpi : ℕ) (size : allowed cpi ≡ true) (batch : List ℕ) (o : OverBits cpi batch) where
+  some : 0 < cpi
+  some = allowed-range cpi size .0
+
+  -- its own bits
+  abbrev v : ℕ → Bool
+  v x = eqb (low (elementAt batch x)) 1
+
+  is-bit : (x : ℕ) → x < 2048 * cpi → elementAt batch x ≡ ofBit (v x)
+  is-bit x l = as-bit (odd (elementAt batch x)) (isBit-true (elementAt batch x) (o .bits x l))
+
+  premises : Premises cpi batch
+  unfolding cycleOf
+  premises =
+      record {
+        words = o .words;
+        fit = o .fit;
+        given = λ c d l h e. ap (λ (x : ℕ). isBit (elementAt batch x)) (witness-column cpi c d l) ∙ o .bits (c * cpi + d) (digits-lt l h);
+        one-is = o .one-is;
+      }
+
+  itself : SameElsewhere cpi batch batch
+  itself = record { lengths = refl; elements = λ x n. refl }
+
+  abbrev pub bits : ℕ → ℕ → Bool
+  bits d = bitsOf cpi batch d
+
+  abbrev output : ℕ → Gf128
+  output d = cycleOf cpi batch d (ONE-COL + 1)
+
+  abbrev DerivedFilled : ℕ → Type 0
+  DerivedFilled d = (c : ℕ) → derived c ≡ true → bits d c ≡ filledBits (bits d) c
+
+  exactly : (d : ℕ) → d < cpi → (judgedCycle (bits d) (output d) ≡ true) ↔ (Step (bits d) (output d) × DerivedFilled d)
+  exactly d l = judged-exactly cpi batch (o .words) d l (one-bit cpi some batch premises d) (output d)
+
+  -- ---- judged with yes, it is its own filling, and the rows hold of what meets the conditions
+
+  at-column : (x : ℕ) → x < 2048 * cpi → v x ≡ bits (x % cpi) (x / cpi)
+  unfolding bitsOf cycleOf
+  at-column x l =
+      ap v (sym (div-add-mod' x cpi) ∙ sym (witness-column cpi (x / cpi) (x % cpi) (div-lt-iff-lt-mul some .1 l)))
+
+  own-filling : ((d : ℕ) → d < cpi → DerivedFilled d) → batch ≡ filled cpi batch
+  unfolding filled
+  own-filling h =
+      is-filling cpi (fillerBits cpi batch) batch batch (o .words) itself
+      (λ x l e. is-bit x l ∙ ap (λ (b : Bool). ofBit b) (at-column x l ∙ h (x % cpi) (mod-lt x some) (x / cpi) e))
+
+  rows-count : length (rowsOf circuitWords) ≡ 514
+  rows-count = ap length words-read ∙ counts .rows
+
+  yes-accepts : JudgedYes cpi batch → judged cpi circuitWords batch ≡ Accepted (514 * cpi)
+  yes-accepts y =
+      let e = own-filling (λ d l. exactly d l .0 (y d l) .1) in
+      verdicts.accepts cpi circuitWords batch
+      (λ d l. cycle-rows circuitWords [] house (cycleOf cpi batch d) .1 (
+        subst (λ (u : List ℕ). RowsHold (cycleOf cpi u d)) (sym e)
+            (rows-or-conditions cpi some batch premises d l .1 (exactly d l .0 (y d l) .0)),
+        tt,
+      ))
+      ∙ ap Accepted (omega (arith, ap (_*_ cpi) rows-count))
+
+  -- ---- and back: where every row holds, the determining rows do
+
+  module _ (h : EveryRowHolds cpi circuitWords batch) where
+    rows-hold : (d : ℕ) → d < cpi → RowsHold (cycleOf cpi batch d)
+    rows-hold d l = cycle-rows circuitWords [] house (cycleOf cpi batch d) .0 (h d l) .0
+
+    own : batch ≡ filling cpi v batch
+    own = is-filling cpi v batch batch (o .words) itself (λ x l e. is-bit x l)
+
+    determined : (d : ℕ) → d < cpi → All (Holds (bitsOf cpi (filling cpi v batch) d)) determining
+    determined d l = split cpi some batch premises v d l (subst (λ (u : List ℕ). RowsHold (cycleOf cpi u d)) own (rows-hold d l)) .0
+
+    derived-filled : (d : ℕ) → d < cpi → DerivedFilled d
+    derived-filled d l c e =
+        filled-only (bits d) (one-bit cpi some batch premises d) (bits d) (λ c _. refl)
+        (subst (λ (u : List ℕ). All (Holds (bitsOf cpi u d)) determining) (sym own) (determined d l)) c (derived-below c e)
+
+    meets : (d : ℕ) → d < cpi → Step (bits d) (output d)
+    meets d l =
+        rows-or-conditions cpi some batch premises d l .0
+        (subst (λ (u : List ℕ). RowsHold (cycleOf cpi u d)) (own ∙ is-filled cpi some batch premises v determined) (rows-hold d l))
+
+    judged-again : JudgedYes cpi batch
+    judged-again d l = exactly d l .1 (meets d l, derived-filled d l)
+
+  pub judges : JudgedYes cpi batch ↔ (judged cpi circuitWords batch ≡ Accepted (514 * cpi))
+  judges = (yes-accepts, λ e. judged-again (verdicts.accepted cpi circuitWords batch (514 * cpi) e))

@@ -1,0 +1,165 @@
+-- The same where bits are known only in the columns that rows name.
+-- Assumes nothing.
+use mathlib.Core.Path.{_≡_, refl, sym, ap, subst, fun-ext, _∙_}
+use mathlib.Core.Logic.{_↔_}
+use mathlib.Core.Bool.{Bool, true, _&&_, _||_, or-true}
+use mathlib.Core.List.{List, [], _∷_}
+use Prim.Native.Nat.{ℕ, _+_, _*_, _/_, _≤_, _<_}
+use native.Mathlib.Decide.{decLt}
+use native.Mathlib.Omega.{arith}
+use borrow.Author.Tests.{eq-eqb, lt-leb}
+use lib.Arith.{digits-lt}
+use lib.Dec.{eqb, leb}
+use lib.ListN.{length}
+use Rattle.base.specs.Lists.{All, joined, from, fromEach}
+use Rattle.base.specs.Laws.Lists.{all-left, all-right}
+use Rattle.base.specs.Laws.Tests.{both}
+use Rattle.field.specs.declared.Gf128.{Gf128}
+use Rattle.field.specs.Gf.{low, isBit, odd, ofBit}
+use Rattle.field.specs.Gf.Tests.{isBit-bit, isBit-true}
+use Rattle.field.specs.Gf.Bits.{low-bit, as-bit}
+use Rattle.layout.specs.Columns.{ONE-COL}
+use Rattle.layout.specs.Batch.{allowed, among, columnAt, batchWords}
+use Rattle.layout.specs.Laws.Sizes.{among-each}
+use Rattle.layout.specs.Laws.Mapping.{witness-column, public-column}
+use Rattle.circuit.specs.Rows.{Row, numbered}
+use Rattle.circuit.specs.Circuit.{binFamilies, fldFamilies, circuitRows, circuitWords}
+use Rattle.circuit.specs.Parse.{rowsOf}
+use Rattle.circuit.specs.Laws.House.{words-read}
+use Rattle.verdict.specs.declared.Verdict.the-variants.{Accepted}
+use Rattle.verdict.specs.Row.{elementAt, cycleOf, holds, bitsOf}
+use Rattle.verdict.specs.Named.{namedBy, named as namedIn}
+use Rattle.verdict.specs.Check.{met, constraints, judged}
+use Rattle.verdict.specs.Laws.Named.{holds-depends}
+use Rattle.verdict.specs.Laws.Verdicts.{run-same, every-constraint}
+use Rattle.step.specs.Filling.{putEach}
+use Rattle.step.specs.Laws.FillingElements.{each-length, each-other, each-here}
+use Rattle.packed.specs.Packed.{namedWord}
+use Rattle.judge.specs.Judged.{judgedCycle, JudgedYes}
+use Rattle.judge.specs.Judges.{OverBits}
+use Rattle.judge.specs.Named.{NamedBits, namedColumns, named}
+use Rattle.judge.specs.Laws.Judges.{bits-fit, judges}
+
+-- where all are bits, the named ones are
+pub over-named : (cpi : ℕ) (batch : List ℕ) → OverBits cpi batch → NamedBits cpi batch
+over-named cpi batch o =
+    record { words = o .words; fit = o .fit; bits = λ c d l _ m. o .bits (c * cpi + d) (digits-lt l m); one-is = o .one-is }
+
+-- ---- a column that is named and not public lies in a word that is read
+
+abbrev readOrPublic : ℕ → Bool
+readOrPublic c = leb 2048 c || namedWord (c / 64)
+
+allReadOrPublic : List ℕ → Bool
+allReadOrPublic [] = true
+allReadOrPublic (c ∷ cs) = readOrPublic c && allReadOrPublic cs
+
+-- by one computed test
+named-read : allReadOrPublic (namedColumns circuitRows) ≡ true
+unfolding allReadOrPublic namedColumns namedIn circuitRows binFamilies fldFamilies from fromEach joined numbered
+named-read = refl
+
+each-read : (cs : List ℕ) → allReadOrPublic cs ≡ true → All (λ c. readOrPublic c ≡ true) cs
+unfolding allReadOrPublic
+each-read [] t = tt
+each-read (c ∷ cs) t = let p = both (readOrPublic c) (allReadOrPublic cs) t in (p .0, each-read cs (p .1))
+
+pub named-packed : (c : ℕ) → named c ≡ true → c < 2048 → namedWord (c / 64) ≡ true
+unfolding named
+named-packed c e l =
+    ap (λ (t : Bool). t || namedWord (c / 64)) (sym (lt-leb 2048 c l))
+    ∙ among-each (λ x. readOrPublic x ≡ true) (namedColumns circuitRows) (each-read (namedColumns circuitRows) named-read) c e
+
+-- ---- cycles that agree on every column that is named: every row holds alike
+
+all-among : (P : ℕ → Type 0) (cs : List ℕ) → ((c : ℕ) → among c cs ≡ true → P c) → All P cs
+all-among P [] h = tt
+all-among P (x ∷ xs) h = (
+  h x (ap (λ (t : Bool). t || among x xs) (eq-eqb x x refl)),
+  all-among P xs (λ c e. h c (ap (_||_ (eqb c x)) e ∙ or-true (eqb c x))),
+)
+
+rows-agree : (y z : ℕ → Gf128) (rs : List Row) → All (λ c. y c ≡ z c) (namedColumns rs)
+    → All (λ r. holds y (r .sides) ≡ holds z (r .sides)) rs
+unfolding namedColumns
+rows-agree y z [] h = tt
+rows-agree y z (r ∷ rs) h = (
+  holds-depends y z (r .sides) (all-left _ (namedBy (r .sides)) (namedColumns rs) h),
+  rows-agree y z rs (all-right _ (namedBy (r .sides)) (namedColumns rs) h),
+)
+
+module _ (cpi : ℕ) (size : allowed cpi ≡ true) (batch : List ℕ) (o : NamedBits cpi batch) where
+  abbrev v : ℕ → Bool
+  v x = eqb (low (elementAt batch x)) 1
+
+  -- every witness column replaced by its own bit
+  abbrev W : List ℕ
+  W = putEach (λ _. true) (2048 * cpi) 0 v batch
+
+  W-words : length W ≡ batchWords cpi
+  W-words = each-length (λ _. true) (2048 * cpi) 0 v batch ∙ o .words
+
+  bit-there : (x : ℕ) → x < 2048 * cpi → elementAt W x ≡ ofBit (v x)
+  bit-there x l = each-here (λ _. true) (2048 * cpi) 0 v batch x (omega arith) (omega arith) refl (omega (arith, o .words))
+
+  public-same : (x : ℕ) → 2048 * cpi ≤ x → elementAt W x ≡ elementAt batch x
+  public-same x l = each-other (λ _. true) (2048 * cpi) 0 v batch x (λ _ m _. omega (arith, m))
+
+  W-bits : (x : ℕ) → x < 2048 * cpi → isBit (elementAt W x) ≡ true
+  W-bits x l = ap isBit (bit-there x l) ∙ isBit-bit (v x)
+
+  W-over : OverBits cpi W
+  W-over =
+      record {
+        words = W-words;
+        fit = bits-fit cpi W batch W-bits public-same (o .fit);
+        bits = W-bits;
+        one-is = public-same (2048 * cpi) (omega arith) ∙ o .one-is;
+      }
+
+  public-cycle : (d c : ℕ) → 2048 ≤ c → cycleOf cpi W d c ≡ cycleOf cpi batch d c
+  unfolding cycleOf
+  public-cycle d c l = public-same (columnAt cpi c d) (omega (arith, public-column cpi c d l))
+
+  bits-same : (d : ℕ) → d < cpi → bitsOf cpi W d ≡ bitsOf cpi batch d
+  unfolding bitsOf cycleOf
+  bits-same d l = fun-ext (λ c. go c (decLt c 2048))
+    where
+      go : (c : ℕ) → Dec (c < 2048) → eqb (low (cycleOf cpi W d c)) 1 ≡ eqb (low (cycleOf cpi batch d c)) 1
+      go c (yes m) =
+          let at = witness-column cpi c d m in
+          ap (λ (x : ℕ). eqb (low (elementAt W x)) 1) at ∙ ap (λ (e : Gf128). eqb (low e) 1) (bit-there (c * cpi + d) (digits-lt m l))
+          ∙ low-bit (v (c * cpi + d)) ∙ ap v (sym at)
+      go c (no f) = ap (λ (e : Gf128). eqb (low e) 1) (public-cycle d c (omega arith))
+
+  -- where a row looks, a bit stood already
+  named-same : (d : ℕ) → d < cpi → (c : ℕ) → named c ≡ true → cycleOf cpi W d c ≡ cycleOf cpi batch d c
+  unfolding cycleOf
+  named-same d l c e =
+      elim (decLt c 2048) [
+        | yes m ↦
+            let at = witness-column cpi c d m in
+            ap (elementAt W) at ∙ bit-there (c * cpi + d) (digits-lt m l)
+            ∙ sym (as-bit (odd _) (isBit-true _ (o .bits c d m e l))) ∙ ap (elementAt batch) (sym at)
+        | no f ↦ public-cycle d c (omega arith)
+      ]
+
+  verdict-same : judged cpi circuitWords W ≡ judged cpi circuitWords batch
+  unfolding judged named
+  verdict-same =
+      run-same (met (cycleOf cpi W)) (met (cycleOf cpi batch)) (constraints cpi (rowsOf circuitWords)) 0
+      (every-constraint (λ k. met (cycleOf cpi W) k ≡ met (cycleOf cpi batch) k) cpi (rowsOf circuitWords) .1
+      (λ d l.
+      subst (λ (rs : List Row). All (λ r. holds (cycleOf cpi W d) (r .sides) ≡ holds (cycleOf cpi batch d) (r .sides)) rs) (sym words-read)
+      (rows-agree (cycleOf cpi W d) (cycleOf cpi batch d) circuitRows (all-among _ (namedColumns circuitRows) (named-same d l)))))
+
+  judgement-same : (d : ℕ) → d < cpi
+      → judgedCycle (bitsOf cpi W d) (cycleOf cpi W d (ONE-COL + 1)) ≡ judgedCycle (bitsOf cpi batch d) (cycleOf cpi batch d (ONE-COL + 1))
+  judgement-same d l = cc (bits-same d l, public-cycle d (ONE-COL + 1) (omega arith))
+
+  pub judges-named : JudgedYes cpi batch ↔ (judged cpi circuitWords batch ≡ Accepted (514 * cpi))
+  judges-named =
+      let j = judges cpi size W W-over in (
+        λ y. sym verdict-same ∙ j .0 (λ d l. judgement-same d l ∙ y d l),
+        λ e d l. sym (judgement-same d l) ∙ j .1 (verdict-same ∙ e) d l,
+      )

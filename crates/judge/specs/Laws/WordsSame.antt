@@ -1,0 +1,115 @@
+-- The judgement of packed words is that of the cycle's bits, and reads no other words than it says; so with every cycle of a batch.
+-- Assumes nothing.
+use mathlib.Core.Path.{_≡_, refl, sym, ap, ap₂, _∙_}
+use mathlib.Core.Logic.{_↔_}
+use mathlib.Core.Bool.{Bool, true, _&&_}
+use mathlib.Core.List.{List, [], _∷_}
+use Prim.Native.Nat.{ℕ, _+_, _*_, _/_, _%_, _^_, _≤_, _<_}
+use native.Mathlib.Omega.{arith}
+use borrow.Author.Tests.{leb-true}
+use lib.Dec.{eqb, leb}
+use Rattle.base.specs.Bits.{word}
+use Rattle.base.specs.Blocks.{Block}
+use Rattle.base.specs.Laws.Tests.{both}
+use Rattle.base.specs.Laws.Bits.{word-part}
+use Rattle.field.specs.declared.Gf128.{Gf128}
+use Rattle.layout.specs.Columns.{ONE-COL}
+use Rattle.layout.specs.Batch.{columnAt}
+use Rattle.layout.specs.Laws.Mapping.{public-column}
+use Rattle.verdict.specs.Row.{elementAt, cycleOf, bitsOf}
+use Rattle.filler.specs.declared.derive.GivenWords.{GivenWords}
+use Rattle.filler.specs.declared.derive.DerivedWords.{DerivedWords}
+use Rattle.filler.specs.declared.conditions.StepWords.{StepWords}
+use Rattle.filler.specs.Words.{derivedWords, blocks}
+use Rattle.filler.specs.Met.{wordsOf, flagsIn, conditions, allTrue}
+use Rattle.filler.specs.Laws.MetRead.{opcode-in, flags-in}
+use Rattle.packed.specs.Packed.{namedWord}
+use Rattle.judge.specs.Judged.{givenOf, allWritten, judgedCycle, JudgedYes}
+use Rattle.judge.specs.Words.{wordsFrom, stepIn, givenIn, sameBits, allWrittenIn, judgedWords, allJudged}
+use Rattle.judge.specs.Laws.WordsWalk.{all-judged}
+
+-- every block lies in one word, and in one that is read
+abbrev inWords : List Block → Bool
+inWords [] = true
+inWords (k ∷ ks) = leb (k .column % 64 + k .width) 64 && (namedWord (k .column / 64) && inWords ks)
+
+-- by one computed test
+blocks-in-words : (g : GivenWords) (w : DerivedWords) → inWords (blocks g w) ≡ true
+blocks-in-words g w = refl
+
+-- ---- words that agree wherever one is read
+
+module _ (ws vs : ℕ → ℕ) (h : (k : ℕ) → namedWord k ≡ true → ws k ≡ vs k) where
+  written-agree : (ks : List Block) → inWords ks ≡ true → allWrittenIn ws ks ≡ allWrittenIn vs ks
+  written-agree [] t = refl
+  written-agree (k ∷ ks) t =
+      let p = both (leb (k .column % 64 + k .width) 64) (namedWord (k .column / 64) && inWords ks) t in
+      let q = both (namedWord (k .column / 64)) (inWords ks) (p .1) in
+      ap₂ _&&_
+      (ap (λ (w : ℕ). sameBits (k .column % 64) (k .width) w (k .word)) (h (k .column / 64) (q .0)))
+      (written-agree ks (q .1))
+
+  step-agree : stepIn ws ≡ stepIn vs
+  step-agree = cc (h 0 refl, h 2 refl, h 3 refl, h 4 refl, h 5 refl, h 6 refl, h 8 refl, h 13 refl)
+
+  given-agree : givenIn ws ≡ givenIn vs
+  given-agree = cc (h 0 refl, h 1 refl, h 3 refl, h 5 refl, h 6 refl, h 8 refl, h 12 refl, h 13 refl)
+
+  pub judged-agree : (output : Gf128) → judgedWords ws output ≡ judgedWords vs output
+  unfolding judgedWords
+  judged-agree output =
+      ap₂ _&&_
+      (ap₂ (λ (s : StepWords) (f : ℕ). allTrue (conditions s (flagsIn f) output)) step-agree (h 12 refl))
+      (ap (λ (g : GivenWords). allWrittenIn ws (blocks g (derivedWords g))) given-agree
+      ∙ written-agree (blocks (givenIn vs) (derivedWords (givenIn vs))) (blocks-in-words (givenIn vs) (derivedWords (givenIn vs))))
+
+-- ---- a cycle's bits, packed
+
+module _ (b : ℕ → Bool) where
+  abbrev packed : ℕ → ℕ
+  packed k = word b (64 * k) 64
+
+  written-packed : (ks : List Block) → inWords ks ≡ true → allWrittenIn packed ks ≡ allWritten b ks
+  written-packed [] t = refl
+  written-packed (k ∷ ks) t =
+      let p = both (leb (k .column % 64 + k .width) 64) (namedWord (k .column / 64) && inWords ks) t in
+      let q = both (namedWord (k .column / 64)) (inWords ks) (p .1) in
+      ap₂ _&&_ (ap (λ (x : ℕ). eqb x (k .word % 2 ^ k .width)) (part (k .column) (k .width) (leb-true _ _ (p .0))))
+      (written-packed ks (q .1))
+    where
+      part : (c n : ℕ) → c % 64 + n ≤ 64 → packed (c / 64) / 2 ^ (c % 64) % 2 ^ n ≡ word b c n
+      part c n l = word-part b (64 * (c / 64)) 64 (c % 64) n l ∙ ap (λ (o : ℕ). word b o n) (omega arith)
+
+  step-packed : stepIn packed ≡ wordsOf b
+  step-packed = cc (opcode-in b)
+
+  judged-packed : (output : Gf128) → judgedWords packed output ≡ judgedCycle b output
+  unfolding judgedWords judgedCycle
+  judged-packed output =
+      ap₂ _&&_
+      (ap₂ (λ s f. allTrue (conditions s f output)) step-packed (flags-in b))
+      (written-packed (blocks (givenOf b) (derivedWords (givenOf b))) (blocks-in-words (givenOf b) (derivedWords (givenOf b))))
+
+  pub judged-same : (ws : ℕ → ℕ) → ((k : ℕ) → namedWord k ≡ true → ws k ≡ word b (64 * k) 64) → (output : Gf128)
+      → judgedWords ws output ≡ judgedCycle b output
+  judged-same ws h output = judged-agree ws packed h output ∙ judged-packed output
+
+-- ---- a batch whose cycles are packed, 32 words each
+
+pub packed-batch : (cpi : ℕ) (batch list : List ℕ)
+    → ((d k : ℕ) → d < cpi → namedWord k ≡ true → wordsFrom list (32 * d) k ≡ word (bitsOf cpi batch d) (64 * k) 64)
+    → (allJudged list (elementAt batch (2048 * cpi + 1)) cpi 0 ≡ true) ↔ JudgedYes cpi batch
+unfolding cycleOf
+packed-batch cpi batch list h =
+    let output = elementAt batch (2048 * cpi + 1) in let all = all-judged list output cpi in (
+      λ e d l. ap (judgedCycle (bitsOf cpi batch d)) (public d) ∙ sym (same d l) ∙ all .0 e d l,
+      λ y. all .1 (λ d l. same d l ∙ ap (judgedCycle (bitsOf cpi batch d)) (sym (public d)) ∙ y d l),
+    )
+  where
+    public : (d : ℕ) → elementAt batch (columnAt cpi (ONE-COL + 1) d) ≡ elementAt batch (2048 * cpi + 1)
+    public d = ap (elementAt batch) (public-column cpi (ONE-COL + 1) d (omega arith) ∙ omega arith)
+
+    same : (d : ℕ) → d < cpi
+        → judgedWords (wordsFrom list (32 * d)) (elementAt batch (2048 * cpi + 1))
+        ≡ judgedCycle (bitsOf cpi batch d) (elementAt batch (2048 * cpi + 1))
+    same d l = judged-same (bitsOf cpi batch d) (wordsFrom list (32 * d)) (λ k t. h d k l t) (elementAt batch (2048 * cpi + 1))

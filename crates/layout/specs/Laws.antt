@@ -1,0 +1,11 @@
+-- Laws, which the prover checks; nobody has to believe them.
+--     Mapping           the mapping and the way back undo each other below one_col, for every size, and no two columns of cycles meet
+--     Questions         what a chain of questions, or a call that asks one, says where it was answered with yes
+--     Segments          no two segments meet
+--     Sheet             P12 of the bench sheet, by computation
+--     Sizes             what the allowed batch sizes have in common
+pub mod Mapping
+pub mod Questions
+pub mod Segments
+pub mod Sheet
+pub mod Sizes

@@ -1,0 +1,55 @@
+-- What a chain of questions, or a call that asks one, says where it was answered with yes.
+-- Assumes nothing.
+use mathlib.Core.Path.{_≡_, refl, sym, ap, _∙_}
+use mathlib.Core.Bool.{Bool, true, false, cond}
+use mathlib.Core.List.{List}
+use Prim.Native.Nat.{ℕ}
+use native.Mathlib.Omega.{arith}
+use borrow.Author.Tests.{eqb-true, eq-eqb}
+use lib.Dec.{eqb}
+use lib.ListN.{length, replicate, length-replicate}
+use Rattle.base.specs.Laws.Tests.{passed}
+use Rattle.layout.specs.declared.Refusal.{Refusal}
+use Rattle.layout.specs.declared.Asked.{Asked}
+use Rattle.layout.specs.declared.Asked.the-variants.{Yes, No}
+use Rattle.layout.specs.Questions.{no, ifYes, Called, after}
+use Rattle.layout.specs.Batch.{allowed, batchWords, batchAsked, SCRATCH-WORDS, scratchFits}
+
+-- a chain that was answered with yes
+pub answered : (test : Bool) (next : Asked) (r : Refusal) → cond test next (No r) ≡ Yes → (test ≡ true) × (next ≡ Yes)
+answered true next r e = (refl, e)
+answered false next r e = let z : _≡_ {A = ℕ} 0 1 = cc in absurd (omega arith)
+
+-- questions after questions, all answered with yes
+pub both-yes : (q next : Asked) → ifYes No q next ≡ Yes → (q ≡ Yes) × (next ≡ Yes)
+both-yes Yes next e = (refl, e)
+both-yes (No r) next e = let z : _≡_ {A = ℕ} 0 1 = cc in absurd (omega arith)
+
+-- the answer after questions: that of a yes, and that of a no
+pub if-yes : {A : Type 0} (refuse : Refusal → A) (answer : A) {q : Asked} → q ≡ Yes → answer ≡ ifYes refuse q answer
+if-yes refuse answer e = ap (λ q. ifYes refuse q answer) (sym e)
+
+pub if-no : {A : Type 0} (refuse : Refusal → A) (answer : A) {q : Asked} {r : Refusal} → q ≡ No r → refuse r ≡ ifYes refuse q answer
+if-no refuse answer e = ap (λ q. ifYes refuse q answer) (sym e)
+
+-- a call that answered yes
+pub after-yes : (a : Asked) (made there u : List ℕ) → after a made there ≡ record { answer = Yes; batch = u } → (a ≡ Yes) × (u ≡ made)
+after-yes Yes made there u e = (refl, ap (λ (c : Called). c .batch) (sym e))
+after-yes (No r) made there u e = let q = ap (λ (c : Called). c .answer) e in let z : _≡_ {A = ℕ} 0 1 = cc in absurd (omega arith)
+
+-- questions 1 and 2: what a yes says, and when it is given
+pub batch-yes : (cpi words : ℕ) → batchAsked cpi words ≡ Yes → (allowed cpi ≡ true) × (words ≡ batchWords cpi)
+unfolding batchAsked
+batch-yes cpi words e =
+    let size = answered (allowed cpi) _ (no 1 0) e in let length = answered (eqb words (batchWords cpi)) _ (no 2 0) (size .1) in
+    (size .0, eqb-true words (batchWords cpi) (length .0))
+
+pub yes-batch : (cpi words : ℕ) → allowed cpi ≡ true → words ≡ batchWords cpi → batchAsked cpi words ≡ Yes
+unfolding batchAsked
+yes-batch cpi words size length =
+    sym (passed _ _ _ (eq-eqb words (batchWords cpi) length) ∙ passed _ _ _ size)
+
+-- there is scratch that fits
+pub some-scratch : scratchFits (length {A = ℕ} (replicate SCRATCH-WORDS 0)) ≡ true
+unfolding scratchFits
+some-scratch = eq-eqb _ _ (length-replicate {A = ℕ} SCRATCH-WORDS 0)

@@ -1,0 +1,273 @@
+-- What a verdict says, for whoever builds on it: acceptance is that every row holds in every cycle; a failure names the first constraint
+-- that does not hold, and counts those before it; the walk can be cut anywhere.
+-- Assumes nothing.
+use mathlib.Core.Path.{_≡_, refl, sym, ap, ap₂, _∙_}
+use mathlib.Core.Logic.{_↔_}
+use mathlib.Core.Bool.{Bool, true, false, cond}
+use mathlib.Core.List.{List, [], _∷_, _++_, map}
+use Prim.Native.Nat.{ℕ, zero, suc, _+_, _*_, _<_, _≤_}
+use native.Mathlib.Nat.{add-zero, suc-mul, mul-add}
+use native.Mathlib.Omega.{arith}
+use lib.ListN.{length, length-append, length-map, replicate}
+use Rattle.base.specs.Lists.{All, fromEach}
+use Rattle.base.specs.Laws.Tests.{passed}
+use Rattle.base.specs.Laws.Lists.{all-append, all-left, all-right, all-map}
+use Rattle.base.specs.Laws.From.{all-each}
+use Rattle.layout.specs.declared.Asked.the-variants.{Yes, No}
+use Rattle.layout.specs.Batch.{allowed, batchWords, scratchFits}
+use Rattle.layout.specs.Laws.Questions.{if-yes, yes-batch}
+use Rattle.circuit.specs.declared.Relation.{Relation}
+use Rattle.circuit.specs.declared.Relation.the-variants.{Bin, Fld}
+use Rattle.circuit.specs.Rows.{Row}
+use Rattle.circuit.specs.Parse.{rowsOf}
+use Rattle.circuit.specs.Batched.{batchRow}
+use Rattle.circuit.specs.Valid.{validated}
+use Rattle.verdict.specs.declared.Verdict.{Verdict}
+use Rattle.verdict.specs.declared.Verdict.the-variants.{Accepted, Failed}
+use Rattle.verdict.specs.declared.CheckAnswer.the-variants.{Judged}
+use Rattle.verdict.specs.Check.{Constraint, inCycle, sameRelation, ofRelation, inCycles, constraints, met, run, judged, asked, after, checked}
+use Rattle.verdict.specs.Row.{cycleOf, holds}
+
+-- ---- the walk, for any test
+
+module _ (test : Constraint → Bool) where
+  abbrev pub Met : List Constraint → Type 0
+  Met ks = All (λ k. test k ≡ true) ks
+
+  -- from any point on: what was met before counts, and decides nothing else
+  pub run-past : (xs ys : List Constraint) (n : ℕ) → Met xs → run test n (xs ++ ys) ≡ run test (n + length xs) ys
+  unfolding run
+  run-past [] ys n p = ap (λ m. run test m ys) (sym (add-zero n))
+  run-past (x ∷ xs) ys n p =
+      sym (passed (test x) _ _ (p .0)) ∙ run-past xs ys (n + 1) (p .1) ∙ ap (λ m. run test m ys) (omega arith)
+
+  pub run-met : (ks : List Constraint) (n : ℕ) → Met ks → run test n ks ≡ Accepted (n + length ks)
+  unfolding run
+  run-met [] n p = ap Accepted (sym (add-zero n))
+  run-met (k ∷ ks) n p = sym (passed (test k) _ _ (p .0)) ∙ run-met ks (n + 1) (p .1) ∙ ap Accepted (omega arith)
+
+  -- a failure: what was met before it, the constraint, and what it says
+  pub record FailedAt (n : ℕ) (ks : List Constraint) (v : Verdict) : Type 0 where
+    pub earlier : List Constraint
+    pub first : Constraint
+    pub later : List Constraint
+    pub order : ks ≡ earlier ++ (first ∷ later)
+    pub held : Met earlier
+    pub fails : test first ≡ false
+    pub says : v ≡ Failed (first .row .relation) (batchRow (first .row .relation) (first .cycle) (first .row .number))
+        (n + length earlier + 1)
+
+  -- every verdict is one or the other
+  pub data Outcome (n : ℕ) (ks : List Constraint) (v : Verdict) : Type 0 where
+    all-met : Met ks → v ≡ Accepted (n + length ks) → Outcome n ks v
+    one-fails : FailedAt n ks v → Outcome n ks v
+
+  pub outcome : (ks : List Constraint) (n : ℕ) → Outcome n ks (run test n ks)
+  unfolding run
+  outcome [] n = all-met tt (ap Accepted (sym (add-zero n)))
+  outcome (k ∷ ks) n = by-test (test k) refl (outcome ks (n + 1))
+    where
+      stop : Verdict
+      stop = Failed (k .row .relation) (batchRow (k .row .relation) (k .cycle) (k .row .number)) (n + 1)
+
+      go : test k ≡ true → Outcome (n + 1) ks (run test (n + 1) ks) → Outcome n (k ∷ ks) (run test (n + 1) ks)
+      go e (all-met p q) = all-met (e, p) (q ∙ ap Accepted (omega arith))
+      go e (one-fails f) =
+          one-fails
+          (record {
+            earlier = k ∷ f .earlier;
+            first = f .first;
+            later = f .later;
+            order = ap (λ ls. k ∷ ls) (f .order);
+            held = (e, f .held);
+            fails = f .fails;
+            says = f .says
+                ∙ ap (Failed (f .first .row .relation)
+                (batchRow (f .first .row .relation) (f .first .cycle) (f .first .row .number))) (omega arith);
+          })
+
+      by-test : (b : Bool) → test k ≡ b → Outcome (n + 1) ks (run test (n + 1) ks) → Outcome n (k ∷ ks) (cond b (run test (n + 1) ks) stop)
+      by-test true e o = go e o
+      by-test false e o =
+          one-fails
+          (record {
+            earlier = [];
+            first = k;
+            later = ks;
+            order = refl;
+            held = tt;
+            fails = e;
+            says = ap (Failed (k .row .relation) (batchRow (k .row .relation) (k .cycle) (k .row .number))) (omega arith);
+          })
+
+  pub met-run : (ks : List Constraint) (n m : ℕ) → run test n ks ≡ Accepted m → Met ks
+  met-run ks n m e = go (outcome ks n)
+    where
+      go : Outcome n ks (run test n ks) → Met ks
+      go (all-met p q) = p
+      go (one-fails f) = let s = f .says in let z : _≡_ {A = ℕ} 0 1 = cc in absurd (omega arith)
+
+-- a failure is not undone by what follows it
+pub run-stops : (test : Constraint → Bool) (xs ys : List Constraint) (n : ℕ) {rel : Relation} {row rows : ℕ}
+    → run test n xs ≡ Failed rel row rows → run test n (xs ++ ys) ≡ Failed rel row rows
+unfolding run
+run-stops test [] ys n e = let z : _≡_ {A = ℕ} 0 1 = cc in absurd (omega arith)
+run-stops test (x ∷ xs) ys n {rel} {row} {rows} e = by-test (test x) refl (run-stops test xs ys (n + 1)) e
+  where
+    stop : Verdict
+    stop = Failed (x .row .relation) (batchRow (x .row .relation) (x .cycle) (x .row .number)) (n + 1)
+
+    by-test : (b : Bool) → test x ≡ b → (run test (n + 1) xs ≡ Failed rel row rows → run test (n + 1) (xs ++ ys) ≡ Failed rel row rows)
+        → cond b (run test (n + 1) xs) stop ≡ Failed rel row rows → cond b (run test (n + 1) (xs ++ ys)) stop ≡ Failed rel row rows
+    by-test true q later e = later e
+    by-test false q later e = e
+
+-- tests that agree give one verdict
+pub run-same : (f g : Constraint → Bool) (ks : List Constraint) (n : ℕ) → All (λ k. f k ≡ g k) ks → run f n ks ≡ run g n ks
+unfolding run
+run-same f g [] n p = refl
+run-same f g (k ∷ ks) n p =
+    ap₂ (λ b v. cond b v (Failed (k .row .relation) (batchRow (k .row .relation) (k .cycle) (k .row .number)) (n + 1)))
+    (p .0) (run-same f g ks (n + 1) (p .1))
+
+-- what was tested before counts, and changes nothing else
+abbrev later : ℕ → Verdict → Verdict
+later n (Accepted rows) = Accepted (n + rows)
+later n (Failed rel row rows) = Failed rel row (n + rows)
+
+pub run-later : (test : Constraint → Bool) (ks : List Constraint) (n m : ℕ) → run test (n + m) ks ≡ later n (run test m ks)
+unfolding run
+run-later test [] n m = refl
+run-later test (k ∷ ks) n m =
+    ap (λ (i : ℕ). cond (test k) (run test i ks) (Failed (k .row .relation) (batchRow (k .row .relation) (k .cycle) (k .row .number)) i))
+    (omega arith)
+    ∙ by-test (test k) (run-later test ks n (m + 1))
+  where
+    stop : ℕ → Verdict
+    stop = Failed (k .row .relation) (batchRow (k .row .relation) (k .cycle) (k .row .number))
+
+    by-test : (b : Bool) → run test (n + (m + 1)) ks ≡ later n (run test (m + 1) ks)
+        → cond b (run test (n + (m + 1)) ks) (stop (n + (m + 1))) ≡ later n (cond b (run test (m + 1) ks) (stop (m + 1)))
+    by-test true e = e
+    by-test false e = refl
+
+-- ---- the constraints
+
+pub count-cycles : (rs : List Row) (n d : ℕ) → length (inCycles d n rs) ≡ n * length rs
+unfolding fromEach
+count-cycles rs zero d = omega arith
+count-cycles rs (suc n) d =
+    length-append (map (inCycle d) rs) (inCycles (suc d) n rs)
+    ∙ ap₂ _+_ (length-map rs (inCycle d)) (count-cycles rs n (suc d)) ∙ omega (arith, suc-mul n (length rs))
+
+-- rows in n cycles from s on: where all hold in the cycles before s + d, and cycle s + d fails, that is the verdict, and the cycles before
+-- it count
+pub cycle-fails : (test : Constraint → Bool) (rs : List Row) (n s d m : ℕ) {rel : Relation} {row rows : ℕ} → d < n
+    → ((e : ℕ) → s ≤ e → e < s + d → All (λ r. test (inCycle e r) ≡ true) rs)
+    → run test 0 (map (inCycle (s + d)) rs) ≡ Failed rel row rows → run test m (inCycles s n rs) ≡ Failed rel row (m + d * length rs + rows)
+unfolding fromEach
+cycle-fails test rs zero s d m h held fails = absurd (omega arith)
+cycle-fails test rs (suc n) s zero m {rel} {row} {rows} h held fails =
+    run-stops test (map (inCycle s) rs) (inCycles (suc s) n rs) m
+    (ap (λ (i : ℕ). run test i (map (inCycle s) rs)) (omega arith) ∙ run-later test (map (inCycle s) rs) m 0
+    ∙ ap (later m) (ap (λ (e : ℕ). run test 0 (map (inCycle e) rs)) (omega arith) ∙ fails) ∙ ap (Failed rel row) (omega arith))
+cycle-fails test rs (suc n) s (suc d) m {rel} {row} h held fails =
+    run-past test (map (inCycle s) rs) (inCycles (suc s) n rs) m
+    (all-map (λ k. test k ≡ true) (inCycle s) rs .1 (held s (omega arith) (omega arith)))
+    ∙ cycle-fails test rs n (suc s) d (m + length (map (inCycle s) rs)) (omega arith) (λ e l u. held e (omega arith) (omega arith))
+    (ap (λ (e : ℕ). run test 0 (map (inCycle e) rs)) (omega arith) ∙ fails)
+    ∙ ap (Failed rel row) (omega (arith, length-map rs (inCycle s), suc-mul d (length rs)))
+
+-- a row is of one relation or the other
+count-relations : (rs : List Row) → length (ofRelation Bin rs) + length (ofRelation Fld rs) ≡ length rs
+unfolding ofRelation
+count-relations [] = refl
+count-relations (r ∷ rs) = by-relation (r .relation) (count-relations rs)
+  where
+    by-relation : (rel : Relation) → length (ofRelation Bin rs) + length (ofRelation Fld rs) ≡ length rs
+        → length (cond (sameRelation rel Bin) (r ∷ ofRelation Bin rs) (ofRelation Bin rs))
+        + length (cond (sameRelation rel Fld) (r ∷ ofRelation Fld rs) (ofRelation Fld rs)) ≡ suc (length rs)
+    by-relation Bin e = omega arith
+    by-relation Fld e = omega arith
+
+-- as many as there are cycles and rows
+pub constraint-count : (cpi : ℕ) (rs : List Row) → length (constraints cpi rs) ≡ cpi * length rs
+unfolding constraints
+constraint-count cpi rs =
+    length-append (inCycles 0 cpi (ofRelation Bin rs)) (inCycles 0 cpi (ofRelation Fld rs))
+    ∙ ap₂ _+_ (count-cycles (ofRelation Bin rs) cpi 0) (count-cycles (ofRelation Fld rs) cpi 0)
+    ∙ sym (mul-add cpi (length (ofRelation Bin rs)) (length (ofRelation Fld rs))) ∙ ap (λ n. cpi * n) (count-relations rs)
+
+module _ (P : Row → Type 0) where
+  all-of : (rel : Relation) (rs : List Row) → All P rs → All P (ofRelation rel rs)
+  unfolding ofRelation
+  all-of rel [] p = tt
+  all-of rel (r ∷ rs) p = by-test (sameRelation (r .relation) rel) (all-of rel rs (p .1))
+    where
+      by-test : (b : Bool) → All P (ofRelation rel rs) → All P (cond b (r ∷ ofRelation rel rs) (ofRelation rel rs))
+      by-test true q = (p .0, q)
+      by-test false q = q
+
+  of-all : (rs : List Row) → All P (ofRelation Bin rs) → All P (ofRelation Fld rs) → All P rs
+  unfolding ofRelation
+  of-all [] p q = tt
+  of-all (r ∷ rs) p q = by-relation (r .relation) p q (of-all rs)
+    where
+      by-relation : (rel : Relation) → All P (cond (sameRelation rel Bin) (r ∷ ofRelation Bin rs) (ofRelation Bin rs))
+          → All P (cond (sameRelation rel Fld) (r ∷ ofRelation Fld rs) (ofRelation Fld rs))
+          → (All P (ofRelation Bin rs) → All P (ofRelation Fld rs) → All P rs) → P r × All P rs
+      by-relation Bin p q later = (p .0, later (p .1) q)
+      by-relation Fld p q later = (q .0, later p (q .1))
+
+module _ (P : Constraint → Type 0) where
+  abbrev InCycle : ℕ → List Row → Type 0
+  InCycle d rs = All (λ r. P (inCycle d r)) rs
+
+  pub in-cycles : (rs : List Row) (n d : ℕ) → All P (inCycles d n rs) ↔ ((e : ℕ) → d ≤ e → e < d + n → InCycle e rs)
+  in-cycles rs n d =
+      let k = all-each P d n (λ e. map (inCycle e) rs) in
+      (λ p e l u. all-map P (inCycle e) rs .0 (k .0 p e l u), λ h. k .1 (λ e l u. all-map P (inCycle e) rs .1 (h e l u)))
+
+  -- every constraint: every row in every cycle
+  pub every-constraint : (cpi : ℕ) (rs : List Row) → All P (constraints cpi rs) ↔ ((d : ℕ) → d < cpi → InCycle d rs)
+  unfolding constraints
+  every-constraint cpi rs = (
+    λ p d h. of-all (λ r. P (inCycle d r)) rs
+        (in-cycles (ofRelation Bin rs) cpi 0 .0
+        (all-left P (inCycles 0 cpi (ofRelation Bin rs)) (inCycles 0 cpi (ofRelation Fld rs)) p) d (omega arith) (omega arith))
+        (in-cycles (ofRelation Fld rs) cpi 0 .0
+        (all-right P (inCycles 0 cpi (ofRelation Bin rs)) (inCycles 0 cpi (ofRelation Fld rs)) p) d (omega arith) (omega arith)),
+    λ h. all-append P (inCycles 0 cpi (ofRelation Bin rs)) (inCycles 0 cpi (ofRelation Fld rs))
+        (in-cycles (ofRelation Bin rs) cpi 0 .1 (λ e l u. all-of (λ r. P (inCycle e r)) Bin rs (h e (omega arith))))
+        (in-cycles (ofRelation Fld rs) cpi 0 .1 (λ e l u. all-of (λ r. P (inCycle e r)) Fld rs (h e (omega arith)))),
+  )
+
+-- ---- acceptance
+
+module _ (cpi : ℕ) (listing batch : List ℕ) where
+  -- every row of the listing holds in every cycle
+  abbrev pub EveryRowHolds : Type 0
+  EveryRowHolds = (d : ℕ) → d < cpi → All (λ r. holds (cycleOf cpi batch d) (r .sides) ≡ true) (rowsOf listing)
+
+  pub accepts : EveryRowHolds → judged cpi listing batch ≡ Accepted (cpi * length (rowsOf listing))
+  unfolding judged
+  accepts h =
+      run-met (met (cycleOf cpi batch)) (constraints cpi (rowsOf listing)) 0
+      (every-constraint (λ k. met (cycleOf cpi batch) k ≡ true) cpi (rowsOf listing) .1 h)
+      ∙ ap Accepted (omega (arith, constraint-count cpi (rowsOf listing)))
+
+  pub accepted : (n : ℕ) → judged cpi listing batch ≡ Accepted n → EveryRowHolds
+  unfolding judged
+  accepted n e =
+      every-constraint (λ k. met (cycleOf cpi batch) k ≡ true) cpi (rowsOf listing) .0
+      (met-run (met (cycleOf cpi batch)) (constraints cpi (rowsOf listing)) 0 n e)
+
+-- ---- the check as it is called: where every question is answered with yes, it is the verdict, and zeros in the scratch
+pub answered-yes : (cpi : ℕ) (listing batch scratch : List ℕ) → allowed cpi ≡ true → validated listing ≡ Yes
+    → scratchFits (length scratch) ≡ true
+    → length batch ≡ batchWords cpi
+    → checked cpi listing batch scratch ≡ record { answer = Judged (judged cpi listing batch); scratch = replicate (length scratch) 0 }
+unfolding checked asked
+answered-yes cpi listing batch scratch size valid room words =
+    ap (λ q. after q (judged cpi listing batch) scratch)
+    (sym (sym valid ∙ passed _ _ _ room ∙ if-yes No _ (yes-batch cpi (length batch) size words)))
