@@ -1,19 +1,18 @@
--- The bench sheet of document 01: P1 to P12 as one table, `BenchSheet`, and below it the table's one theorem, `bench-sheet`. Each line
--- speaks of an operation as it is called, questions and scratch included, by the definition that its contract cites. Each line's proof is
--- the theorem of the crate where the operation lives.
+-- The bench sheet of document 01: P1 to P12 as one table, `BenchSheet`. Each line speaks of an operation as it is called, questions and
+-- scratch included, by the definition that its contract cites. The table's one theorem is `bench-sheet` of Laws/BenchSheet.
 -- Assumes nothing.
 use mathlib.Core.Path.{_≡_}
 use mathlib.Core.Bool.{true, cond}
 use mathlib.Core.List.{List, [], _∷_, _++_}
-use Prim.Native.Nat.{ℕ, _+_, _-_, _*_, _^_}
-use lib.ListN.{length, take, getD, set, replicate}
+use Prim.Native.Nat.{ℕ, _+_, _-_, _^_}
+use lib.ListN.{length, take, getD, replicate}
 use Rattle.base.specs.Lists.{from}
 use Rattle.field.specs.Gf.{product, element, ofWords, zero, one}
 use Rattle.layout.specs.declared.Asked.the-variants.{Yes}
 use Rattle.layout.specs.declared.GeometryAnswer.the-variants.{Of, Refused}
 use Rattle.layout.specs.declared.ColumnAnswer.the-variants.{At}
-use Rattle.layout.specs.Columns.{ONE-COL, RS1, RD, T1, ALU, SUB, IS-LOAD, IS-STORE, IS-ARITH, RAM-ADDR, FETCH-OP}
-use Rattle.layout.specs.Batch.{geometryOf, mapped, scratchFits, CYCLE-WORDS}
+use Rattle.layout.specs.Columns.{RS1, RD, T1, ALU, SUB, IS-LOAD, IS-STORE, IS-ARITH, RAM-ADDR, FETCH-OP}
+use Rattle.layout.specs.Batch.{geometryOf, mapped, scratchFits}
 use Rattle.layout.specs.Questions.{no}
 use Rattle.circuit.specs.declared.Relation.the-variants.{Bin, Fld}
 use Rattle.circuit.specs.Circuit.{circuitWords}
@@ -22,6 +21,7 @@ use Rattle.verdict.specs.declared.Verdict.the-variants.{Accepted, Failed}
 use Rattle.verdict.specs.declared.CheckAnswer.the-variants.{Judged}
 use Rattle.verdict.specs.Row.{elementAt}
 use Rattle.verdict.specs.Check.{checked}
+use Rattle.verdict.specs.Sheet.{zeroRow, oneRow}
 use Rattle.step.specs.Derived.{derived}
 use Rattle.step.specs.Fill.{called}
 use Rattle.step.specs.Sheet.{has, withOnes, withOutput, number}
@@ -31,16 +31,11 @@ use Rattle.witness.specs.Reading.{reading}
 
 -- ---- the words of the table
 
--- a row of one cycle is 8,192 words, two an element, the low one first: P4's, all zero, and P5's, in which only the one column is 1. Into
--- P5's row `withOnes` puts 1 in the columns listed, `number c w n` lists those where n of w bits stands at column c, low bit first, and
--- `withOutput` puts a number into the first public element after the one column.
-abbrev pub zeroRow : List ℕ
-zeroRow = replicate CYCLE-WORDS 0
+-- `zeroRow` is P4's, all zero, and `oneRow` P5's, in which only the one column is 1. Into P5's row `withOnes` puts 1 in the columns listed,
+-- `number c w n` lists those where n of w bits stands at column c, low bit first, and `withOutput` puts a number into the first public
+-- element after the one column.
 
-abbrev pub oneRow : List ℕ
-oneRow = set zeroRow (2 * ONE-COL) 1
-
--- the check, on a row over the house listing, with whatever stands in 3,072 words of scratch: a verdict, and zeros in the scratch
+-- the check, on a row over the house listing, with whatever stands in scratch that fits: a verdict, and zeros in the scratch
 abbrev pub Checks : List ℕ → Verdict → Type 0
 Checks row v =
     (scratch : List ℕ) → scratchFits (length scratch) ≡ true → checked 1 circuitWords row scratch

@@ -3,7 +3,7 @@
 use mathlib.Core.List.{List, [], _∷_}
 use Prim.Native.Nat.{ℕ, zero, suc, _+_, _*_}
 use lib.ListN.{take, drop}
-use Rattle.layout.specs.Batch.{CYCLE-WORDS}
+use Rattle.layout.specs.Batch.{ROW-WORDS}
 
 -- the number that bytes spell, the lowest byte first
 unfoldable pub numberOf : List ℕ → ℕ
@@ -17,4 +17,4 @@ wordsOf (suc n) bytes = numberOf (take 8 bytes) ∷ wordsOf n (drop 8 bytes)
 
 -- the row of 65,536 bytes: the 8,192 words of a batch of one cycle
 abbrev pub rowOf : List ℕ → List ℕ
-rowOf bytes = wordsOf CYCLE-WORDS bytes
+rowOf bytes = wordsOf ROW-WORDS bytes

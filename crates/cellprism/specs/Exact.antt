@@ -19,5 +19,5 @@ abbrev pub Exact : CheckAnswer → Type 0
 Exact (Judged v) = Small v
 Exact (Refused r) = r ≡ no 2 0
 
-abbrev pub rowOf : Constraint → ℕ
-rowOf k = batchRow (k .row .relation) (k .cycle) (k .row .number)
+abbrev pub batchRowOf : Constraint → ℕ
+batchRowOf k = batchRow (k .row .relation) (k .cycle) (k .row .number)

@@ -5,7 +5,7 @@
 --     BenchSheet        the bench sheet, P1 to P12 as one table
 --     Sheet             the boundary's answers: question 2, and the bench sheet's P4 and P5 in bytes
 --     Exact             the 32-bit answer loses nothing but the count of a failure: the statement
---     Packing           a row that is handed over as bytes: its words, and the short way from them
+--     Packing           what the functions that read a row's bytes are told of them
 -- What follows from these, which the prover checks: Laws.
 pub mod Bytes
 pub mod Answer

@@ -53,7 +53,7 @@ pub fn check_bytes(bytes: &[u8]) -> CheckAnswer
     if short::short_yes(bytes) {
         return CheckAnswer::Judged(Verdict::Accepted { rows: 514 });
     }
-    let mut words = [0u64; layout::CYCLE_WORDS];
+    let mut words = [0u64; layout::ROW_WORDS];
     bytes::read_words(bytes, &mut words);
     verdict::check_house(1, &words)
 }

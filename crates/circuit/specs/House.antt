@@ -1,4 +1,4 @@
--- What is computed of the house listing: its counts, where its families start, that it is in order, and that reading it gives its rows.
+-- Statements about the house listing: how many rows and terms it has, where its families start, and P11 of the bench sheet.
 -- Assumes nothing.
 use mathlib.Core.Path.{_≡_}
 use mathlib.Core.List.{List, [], _∷_}

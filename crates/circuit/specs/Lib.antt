@@ -8,7 +8,7 @@
 --     Found             where a row of a listing stands: question 13
 --     Reader            the listing reader: what opening and asking for a row answer
 --     Batched           what a word of the listing stands for in cycle d of a batch; the way back from a batch row
---     House             statements about the house listing: its counts, and P11 of the bench sheet
+--     House             statements about the house listing: its counts, where its families start, and P11
 -- What follows from these, which the prover checks: Laws.
 pub mod Words
 pub mod Rows

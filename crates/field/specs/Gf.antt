@@ -1,6 +1,6 @@
 -- GF(2^128) of NIST SP 800-38D, section 6.3. A polynomial over GF(2) is a natural number: its bit i is the coefficient of
 -- t^i. (SP 800-38D draws a block the other way round, so its R = 11100001 0..0 is 0x87 here.) An element is a polynomial
--- of degree below 128, held in two words. All is shut: whoever uses the field goes by the laws, in the modules below.
+-- of degree below 128, held in two words. All but `ofBit` and `odd` is shut: whoever uses the field goes by the laws, in the modules below.
 pub mod Coefficient
 pub mod Sum
 pub mod Multiply

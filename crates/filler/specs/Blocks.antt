@@ -1,4 +1,4 @@
--- Words put into blocks of a cycle's columns, and what a batch holds then.
+-- Words put into blocks of a cycle's columns.
 -- Assumes nothing.
 use mathlib.Core.List.{List, [], _∷_}
 use Prim.Native.Nat.{ℕ, zero, suc, _+_, _*_}

@@ -1,4 +1,4 @@
--- Words with one bit of eight set, or one of each four: which lane an offset or funct3 is. By computing every case.
+-- Words with one bit of eight set, or one of each four: which lane an offset or funct3 is.
 -- Assumes nothing.
 use Prim.Native.Nat.{ℕ, _+_, _*_, _%_, _^_}
 

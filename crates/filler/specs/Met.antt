@@ -1,6 +1,6 @@
 -- Which step condition is the first that a cycle does not meet: the ten of `Step` again, as the tests of a cycle's words that the code
--- makes and its contracts cite. Each proves every test true exactly when the condition of its number holds, First that all are met
--- exactly when the record of the conditions holds. Read has what the code reads.
+-- makes and its contracts cite. Laws/MetEach proves every test true exactly when the condition of its number holds, Laws/MetFirst that
+-- all are met exactly when the record of the conditions holds, Laws/MetRead that these are the words that the code reads.
 -- Assumes nothing.
 use mathlib.Core.Bool.{Bool, true, false, not, cond, _&&_, _||_}
 use mathlib.Core.List.{List, [], _∷_}

@@ -31,8 +31,8 @@ givenWords cpi batch d =
     }
 
 -- of the word of columns 768 on: bit i is column 768 + i
-abbrev pub flagsOf : ℕ → Flags
-flagsOf w =
+abbrev pub gateFlags : ℕ → Flags
+gateFlags w =
     record {
       write = bitAt w (WE - FLAGS);
       load = bitAt w (IS-LOAD - FLAGS);
@@ -54,12 +54,12 @@ topBitsOf g carry zeros =
     }
 
 abbrev pub lanesOf : ℕ → ℕ
-lanesOf w = laneWord (w / 2 ^ (OFF - FLAGS) % 2 ^ 3) (flagsOf w)
+lanesOf w = laneWord (w / 2 ^ (OFF - FLAGS) % 2 ^ 3) (gateFlags w)
 
 abbrev pub branchesOf : GivenWords → ℕ → ℕ → ℕ
 branchesOf g carry zeros =
     branchWord (g .fetch % 2 ^ OP-BITS) (g .fetch / 2 ^ (FETCH-FUNCT3 - FETCH) % 2 ^ FUNCT3-BITS)
-    (topBitsOf g carry zeros) (flagsOf (g .flags))
+    (topBitsOf g carry zeros) (gateFlags (g .flags))
 
 abbrev pub carryOf : GivenWords → ℕ
 carryOf g = carryWord (g .t1) (g .t2) (digit (bitAt (g .flags) (SUB - FLAGS)))

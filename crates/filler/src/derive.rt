@@ -25,7 +25,7 @@ ghost use Rattle.base.specs.Bits.{digit, _⊻_, bitAt};
 ghost use Rattle.base.specs.Fields.{pack, flags};
 ghost use Rattle.filler.specs.Lanes.{hot, pair};
 ghost use Rattle.filler.specs.Derive.{carryWord, runWord, gateBits, compareWord, opcodeRun, takenBit};
-ghost use Rattle.filler.specs.Words.{flagsOf, topBitsOf, lanesOf, branchesOf, derivedWords};
+ghost use Rattle.filler.specs.Words.{gateFlags, topBitsOf, lanesOf, branchesOf, derivedWords};
 
 // The words of a cycle that its derived columns depend on; `flags` has columns 768 to 831.
 pub struct GivenWords {
@@ -113,7 +113,7 @@ fn gate(b: bool, w: u64) -> u64
 }
 
 fn flags_of(w: u64) -> Flags
-    ensures { λ r. ⌜ r ≡ flagsOf w ⌝ }
+    ensures { λ r. ⌜ r ≡ gateFlags w ⌝ }
 {
     Flags {
         write: nth(w, WE_BIT),

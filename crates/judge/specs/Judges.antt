@@ -1,4 +1,5 @@
--- Over bits with the one column 1, every cycle is judged with yes exactly when the check accepts; it then counts 514 rows a cycle.
+-- A batch over bits: every column below the one column is 0 or 1, and the one column 1. (Laws/Judges: over bits, every cycle is judged
+-- with yes exactly when the check accepts.)
 -- Assumes nothing.
 use mathlib.Core.Path.{_≡_}
 use mathlib.Core.Bool.{true}

@@ -1,4 +1,4 @@
--- The same where bits are known only in the columns that rows name: the others decide nothing.
+-- The columns that rows name, and a batch that has bits in these alone. (Laws/Named: the others decide nothing.)
 -- Assumes nothing.
 use mathlib.Core.Path.{_≡_}
 use mathlib.Core.Bool.{Bool, true}

@@ -1,5 +1,5 @@
 -- The short way to an accepted batch: the one column is 1, the columns that rows name are bits, and every cycle is judged with yes from
--- its packed words. The laws are in Laws: what it says yes to, the check accepts.
+-- its packed words. (Laws/Short: what it says yes to, the check accepts.)
 -- Assumes nothing.
 use mathlib.Core.Path.{_≡_}
 use mathlib.Core.Bool.{Bool, true, false, _&&_}

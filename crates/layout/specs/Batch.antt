@@ -1,4 +1,4 @@
--- A batch: its sizes, its geometry, and where the columns of its cycles stand (document 01, "Columns").
+-- A batch: its sizes, questions 1, 2 and 5, its geometry, and where the columns of its cycles stand (document 01, "Columns").
 -- Assumes nothing.
 use mathlib.Core.Bool.{Bool, false, cond, _||_}
 use mathlib.Core.List.{List, [], _∷_}
@@ -27,12 +27,12 @@ among n (x ∷ xs) = eqb n x || among n xs
 unfoldable pub allowed : ℕ → Bool
 allowed cpi = among cpi sizes
 
--- the words of a cycle: 4,096 elements, of two words each; and those of a batch
-abbrev pub CYCLE-WORDS : ℕ
-CYCLE-WORDS = 8192
+-- the words of a row, which is a batch of one cycle: 4,096 elements, of two words each; and those of a batch
+abbrev pub ROW-WORDS : ℕ
+ROW-WORDS = 8192
 
 abbrev pub batchWords : ℕ → ℕ
-batchWords cpi = CYCLE-WORDS * cpi
+batchWords cpi = ROW-WORDS * cpi
 
 -- questions 1 and 2, of the number of a batch's words
 unfoldable pub batchAsked : ℕ → ℕ → Asked

@@ -3,7 +3,7 @@
 --     Columns           the columns of one cycle, as `WITNESS_LAYOUT` places them
 --     Segments          the segments of `SEGMENTS_CPU`
 --     Questions         document 01's questions
---     Batch             a batch: its sizes, its geometry, and where the columns of its cycles stand (document 01, "Columns")
+--     Batch             a batch: its sizes, questions 1, 2 and 5, its geometry, the mapping and the way back
 --     Sheet             P12 of the bench sheet
 -- What follows from these, which the prover checks: Laws.
 pub mod Columns

@@ -1,4 +1,4 @@
--- P12 of the bench sheet, by computation.
+-- P12 of the bench sheet.
 -- Assumes nothing.
 use mathlib.Core.Path.{_≡_}
 use Rattle.layout.specs.declared.GeometryAnswer.the-variants.{Of, Refused}

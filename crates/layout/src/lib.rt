@@ -13,7 +13,7 @@ ghost use Rattle.layout.specs.Batch.{DEFAULT-CPI, allowed, batchAsked, s
 
 pub const DEFAULT_CPI: usize = 1; // cycles of a batch where nobody chooses
 
-pub const CYCLE_WORDS: usize = 8192; // words of a cycle: 4,096 elements, of two words each
+pub const ROW_WORDS: usize = 8192; // words of a row: 4,096 elements, of two words each
 
 pub const SCRATCH_WORDS: usize = 3072; // words of the check's scratch
 
@@ -80,7 +80,7 @@ pub fn ask_batch(cpi: usize, words: usize) -> Asked
     if !is_allowed(cpi) {
         return Asked::No(refused(1));
     }
-    if words != CYCLE_WORDS * cpi {
+    if words != ROW_WORDS * cpi {
         return Asked::No(refused(2));
     }
     Asked::Yes

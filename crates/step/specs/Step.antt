@@ -49,7 +49,7 @@ Conditions b output =
     -- 10. just one of load and store: RAM_ADDR is ALU bits 3..10
     ∷ ((b IS-LOAD ⊻ b IS-STORE) ≡ true → word b RAM-ADDR 8 ≡ word b (ALU + 3) 8) ∷ []
 
--- condition k; past the ten there is none that holds
+-- condition k, counted from 1; past the ten there is none that holds
 abbrev pub Condition : (ℕ → Bool) → Gf128 → ℕ → Type 0
 Condition b output k = getD (Conditions b output) (k - 1) ⊥
 

@@ -6,7 +6,7 @@
 --     Bits              the bit test
 --     Named             the columns that a row names: those of its terms whose coefficient is not zero
 --     OverBits          a row over bits: sums are exclusive or, products are and
---     Sheet             P5's row of the bench sheet
+--     Sheet             P4's and P5's rows of the bench sheet
 --     Promises          what the functions inside the check give: records that name each fact
 --     RowParts          a row's words: its mark, and then the terms of A, of B and of C, each side a run
 --     Order             the marks of fld rows, behind which no bin row stands

@@ -1,5 +1,4 @@
--- What an answer of yes to questions 6 to 10 shows of a listing: its terms are sorted, and its bin rows stand before its fld rows, so
--- that one index splits it into the words of the two relations.
+-- A word that is the mark of a fld row: behind the first of them no bin row stands in a listing in order.
 -- Assumes nothing.
 use mathlib.Core.Bool.{Bool, false, cond}
 use Prim.Native.Nat.{ℕ}

@@ -1,5 +1,4 @@
--- Over columns that hold 0 or 1, a row whose coefficients are 0 or 1 says over the field what it says over bits, where sums are exclusive
--- or and products are and.
+-- A side's sum and a row over bits, where sums are exclusive or and products are and; rows whose coefficients are 0 or 1.
 -- Assumes nothing.
 use mathlib.Core.Bool.{Bool, true, false, not, _&&_}
 use mathlib.Core.List.{List, [], _∷_}

@@ -1,5 +1,4 @@
--- A row's words in a listing that is in order: its mark, and then the terms of A, of B and of C, each side a run of words. What parsing
--- gives is what the runs give.
+-- A row's words in a listing that is in order: its mark, and then the terms of A, of B and of C, each side a run of words.
 -- Assumes nothing.
 use mathlib.Core.Bool.{Bool, true, cond, _&&_}
 use mathlib.Core.List.{List, [], _∷_, map}

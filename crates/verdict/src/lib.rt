@@ -51,11 +51,7 @@ pub enum CheckAnswer {
 pub fn clear(s: &mut [u64])
     ensures { λ _. ⌜ now (s .exit) ≡ replicate (length (now (s .entry))) 0 ⌝ }
 {
-    let mut i: usize = 0;
-    while i < s.len() {
-        s[i] = 0;
-        i = i + 1;
-    }
+    base::clear(s);
 }
 
 // Questions 1, 2, 5, and 6 to 10.

@@ -10,7 +10,7 @@ use Rattle.base.specs.Lists.{joined, from}
 use Rattle.base.specs.Blocks.{columnBit}
 use Rattle.layout.specs.declared.Asked.{Asked}
 use Rattle.layout.specs.Questions.{Called, after}
-use Rattle.layout.specs.Batch.{CYCLE-WORDS}
+use Rattle.layout.specs.Batch.{ROW-WORDS}
 use Rattle.witness.specs.declared.records.CycleRecord.{CycleRecord}
 use Rattle.witness.specs.declared.records.RomRow.{RomRow}
 use Rattle.witness.specs.Upper.{publicAsked, batchWord}
@@ -33,7 +33,7 @@ rowWord bit public = batchWord 2048 (bitWord bit) public
 
 -- all 4,096 elements, of two words each
 unfoldable pub madeRow : CycleRecord → RomRow → List ℕ → List ℕ
-madeRow r m public = from 0 CYCLE-WORDS (rowWord (rowBit r m) public)
+madeRow r m public = from 0 ROW-WORDS (rowWord (rowBit r m) public)
 
 -- the call, with every slice as it is lent
 unfoldable pub rowCalled : CycleRecord → RomRow → List ℕ → List ℕ → Called

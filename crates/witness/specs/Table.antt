@@ -24,8 +24,8 @@ secondOperand r = cond (subtracts r) (2 ^ 64 - 1 - r .«alu_b») (r .«alu_b»)
 abbrev pub aluOf : CycleRecord → ℕ
 aluOf r = cond (r .«is_arith») ((r .«alu_a» + secondOperand r + digit (subtracts r)) % 2 ^ 64) (r .«alu_out»)
 
--- the carry into bit i of that sum: into bit 0 the subtract bit, into bit i + 1 whether two of these are set: bits i of both operands, the
--- carry into bit i
+-- the carry into bit i of that sum: into bit 0 the subtract bit, into bit i + 1 whether at least two of these are set: bits i of both
+-- operands, the carry into bit i
 unfoldable pub carryInto : CycleRecord → ℕ → Bool
 carryInto r zero = subtracts r
 carryInto r (suc i) =

@@ -13,7 +13,7 @@ ghost use Prim.Native.Nat.{_+_, _<_, _≤_};
 ghost use Rattle.base.specs.Lists.{from};
 ghost use lib.ListN.{length, getD};
 ghost use Rattle.layout.specs.Questions.{Called};
-ghost use Rattle.layout.specs.Batch.{CYCLE-WORDS};
+ghost use Rattle.layout.specs.Batch.{ROW-WORDS};
 ghost use Rattle.base.specs.Fields.{pack, flags};
 ghost use Rattle.witness.specs.Table.{subtracts, secondOperand, aluOf, busRd};
 ghost use Rattle.witness.specs.RowWords.{flagsWord, busWord, givenWords, rowWords, bitIn, bitsFrom};
@@ -178,8 +178,8 @@ fn write_words(words: &[u64], row: &mut [u64])
 }
 
 fn write_row(words: &[u64], public: &[u64], row: &mut [u64])
-    requires { ⌜ (length (now row) ≡ CYCLE-WORDS) × (length (now public) ≤ 4094) ⌝ }
-    ensures { λ _. ⌜ now (row .exit) ≡ from 0 CYCLE-WORDS (rowWord (bitIn (now (words .entry))) (now (public .entry))) ⌝ }
+    requires { ⌜ (length (now row) ≡ ROW-WORDS) × (length (now public) ≤ 4094) ⌝ }
+    ensures { λ _. ⌜ now (row .exit) ≡ from 0 ROW-WORDS (rowWord (bitIn (now (words .entry))) (now (public .entry))) ⌝ }
 {
     write_words(words, row);
     write_upper(public, 4096, row);

@@ -31,29 +31,6 @@ pub fn ask_public(cpi: usize, public: usize, batch: usize) -> Asked
     }
 }
 
-fn copy_public(public: &[u64], start: usize, out: &mut [u64])
-    requires { ⌜ start + 2 + length (now public) ≤ length (now out) ⌝ }
-    ensures { λ _. ⌜ Written (upperFrom start (now (public .entry))) (start + 2) (start + 2 + length (now (public .entry)))
-        (now (out .entry)) (now (out .exit)) ⌝ }
-{
-    let mut i: usize = 0;
-    while i < public.len() {
-        out[start + 2 + i] = public[i];
-        i = i + 1;
-    }
-}
-
-fn clear_from(start: usize, out: &mut [u64])
-    requires { ⌜ start ≤ length (now out) ⌝ }
-    ensures { λ _. ⌜ Written (λ _. 0) start (length (now (out .entry))) (now (out .entry)) (now (out .exit)) ⌝ }
-{
-    let mut k = start;
-    while k < out.len() {
-        out[k] = 0;
-        k = k + 1;
-    }
-}
-
 // All words from start on, which is where the one column stands.
 pub fn write_upper(public: &[u64], start: usize, out: &mut [u64])
     requires { ⌜ start + 2 + length (now public) ≤ length (now out) ⌝ }
@@ -62,6 +39,6 @@ pub fn write_upper(public: &[u64], start: usize, out: &mut [u64])
 {
     out[start] = 1;
     out[start + 1] = 0;
-    copy_public(public, start, out);
-    clear_from(start + 2 + public.len(), out);
+    base::copy_at(public, out, start + 2);
+    base::clear_from(out, start + 2 + public.len());
 }

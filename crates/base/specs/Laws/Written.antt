@@ -1,15 +1,17 @@
 -- What loops have written: nothing yet, one entry or piece more, and in the end all of it.
 -- Assumes nothing.
 use mathlib.Core.Path.{_≡_, refl, sym, ap, subst, _∙_}
-use mathlib.Core.List.{List}
-use Prim.Native.Nat.{ℕ, _+_, _≤_, _<_}
+use mathlib.Core.List.{List, _∷_}
+use Prim.Native.Nat.{ℕ, zero, suc, _+_, _-_, _≤_, _<_}
 use native.Mathlib.Decide.{decLt}
 use native.Mathlib.Nat.{zero-add}
 use native.Mathlib.Omega.{arith}
-use lib.ListN.{length, getD, set, length-set}
+use borrow.Author.Tests.{lt-ltb, le-ltb}
+use lib.ListN.{length, getD, set, length-set, replicate, List·getD-eq-default}
 use lib.Seq.{getD-set-same, getD-set-other, ext-getD}
 use Rattle.base.specs.Lists.{from}
-use Rattle.base.specs.Written.{Written}
+use Rattle.base.specs.Written.{Written, copied}
+use Rattle.base.specs.Laws.Tests.{passed, refused}
 use Rattle.base.specs.Laws.From.{length-from, getD-from}
 
 pub written-none : (f : ℕ → ℕ) (first : ℕ) (before : List ℕ) → Written f first first before before
@@ -56,9 +58,54 @@ written-same f g first k before after e w =
     record { lengths = w .lengths; here = λ i l h. w .here i l h ∙ e i l h; left = w .left; right = w .right }
 
 -- the end: all of it is f
-pub written-all : (f : ℕ → ℕ) (k n : ℕ) (before after : List ℕ) → length before ≡ n → n ≤ k → Written f 0 k before after → after
-    ≡ from 0 n f
+pub written-all : (f : ℕ → ℕ) (k n : ℕ) (before after : List ℕ) → length before ≡ n → n ≤ k → Written f 0 k before after
+    → after ≡ from 0 n f
 written-all f k n before after e h w =
     ext-getD 0 after (from 0 n f) (w .lengths ∙ e ∙ sym (length-from f n 0))
     (λ i l. w .here i (omega arith) (omega (arith, w .lengths)) ∙ ap f (sym (zero-add i))
     ∙ sym (getD-from f 0 n 0 i (omega (arith, w .lengths))))
+
+-- behind the end there is nothing, before and after
+beyond : (before after : List ℕ) → length after ≡ length before → (i : ℕ) → length before ≤ i → getD after i 0 ≡ getD before i 0
+beyond before after e i l = List·getD-eq-default after 0 (omega arith) ∙ sym (List·getD-eq-default before 0 l)
+
+-- as far as the end, where the loops have come that far
+pub written-end : (f : ℕ → ℕ) (first k : ℕ) (before after : List ℕ) → length before ≤ k → Written f first k before after
+    → Written f first (length before) before after
+written-end f first k before after h w =
+    record { lengths = w .lengths; here = λ i l m. w .here i l (omega arith); left = w .left; right = beyond before after (w .lengths) }
+
+from-replicate : (n i v : ℕ) → from i n (λ _. v) ≡ replicate n v
+unfolding from
+from-replicate zero i v = refl
+from-replicate (suc n) i v = ap (λ (l : List ℕ). v ∷ l) (from-replicate n _ v)
+
+-- all of it is 0
+pub written-zero : (before after : List ℕ) → Written (λ _. 0) 0 (length before) before after → after ≡ replicate (length before) 0
+written-zero before after w =
+    written-all (λ _. 0) (length before) (length before) before after refl (omega arith) w ∙ from-replicate (length before) 0 0
+
+-- words copied as far as they reach, or as far as there is room
+pub copied-end : (words : List ℕ) (start k : ℕ) (before after : List ℕ) → k ≤ start + length words
+    → ((i : ℕ) → k ≤ i → i < length before → start + length words ≤ i) → Written (λ i. getD words (i - start) 0) start k before after
+    → Written (copied words start before) start (length before) before after
+copied-end words start k before after h room w =
+    record { lengths = w .lengths; here = λ i l m. piece i l m (decLt i k); left = w .left; right = beyond before after (w .lengths) }
+  where
+    piece : (i : ℕ) → start ≤ i → i < length before → Dec (i < k) → getD after i 0 ≡ copied words start before i
+    piece i l m (yes q) = w .here i l q ∙ passed _ _ _ (lt-ltb i (start + length words) (omega arith))
+    piece i l m (no q) = w .right i (omega arith) ∙ refused _ _ _ (le-ltb i (start + length words) (room i (omega arith) m))
+
+-- where there is room for all of them
+pub copied-fits : (words : List ℕ) (start : ℕ) (before after : List ℕ) → start + length words ≤ length before
+    → Written (copied words start before) start (length before) before after
+    → Written (λ i. getD words (i - start) 0) start (start + length words) before after
+copied-fits words start before after h w =
+    record { lengths = w .lengths; here = inside; left = w .left; right = λ i l. behind i l (decLt i (length before)) }
+  where
+    inside : (i : ℕ) → start ≤ i → i < start + length words → getD after i 0 ≡ getD words (i - start) 0
+    inside i l m = w .here i l (omega arith) ∙ sym (passed _ _ _ (lt-ltb i (start + length words) m))
+
+    behind : (i : ℕ) → start + length words ≤ i → Dec (i < length before) → getD after i 0 ≡ getD before i 0
+    behind i l (yes q) = w .here i (omega arith) q ∙ sym (refused _ _ _ (le-ltb i (start + length words) l))
+    behind i l (no q) = w .right i (omega arith)

@@ -10,7 +10,7 @@ use borrow.Author.Tests.{ltb-true, eq-eqb}
 use lib.Dec.{ltb}
 use lib.ListN.{length}
 use Rattle.base.specs.Laws.Tests.{passed, both}
-use Rattle.layout.specs.Batch.{allowed, CYCLE-WORDS}
+use Rattle.layout.specs.Batch.{allowed, ROW-WORDS}
 use Rattle.layout.specs.Laws.Questions.{if-yes, yes-batch}
 use Rattle.circuit.specs.Circuit.{circuitWords}
 use Rattle.verdict.specs.declared.CheckAnswer.the-variants.{Judged, Refused}
@@ -48,7 +48,7 @@ words-back (w ∷ ws) h =
     let b = both (ltb w (2 ^ 64)) (wordsFit ws) h in
     ap₂ (λ v vs. v ∷ vs) (spelled-number w (ltb-true w (2 ^ 64) (b .0))) (words-back ws (b .1))
 
-pub row-judged : (ws : List ℕ) → wordsFit ws ≡ true → length ws ≡ CYCLE-WORDS → rowChecked (bytesOf ws) ≡ Judged (judged 1 circuitWords ws)
+pub row-judged : (ws : List ℕ) → wordsFit ws ≡ true → length ws ≡ ROW-WORDS → rowChecked (bytesOf ws) ≡ Judged (judged 1 circuitWords ws)
 unfolding rowChecked houseChecked allowed
 row-judged ws h e =
     sym (passed _ _ _ (eq-eqb (length (bytesOf ws)) 65536 (bytes-length ws ∙ ap (λ n. 8 * n) e)))

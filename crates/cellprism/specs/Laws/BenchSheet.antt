@@ -22,6 +22,7 @@ use Rattle.verdict.specs.declared.CheckAnswer.the-variants.{Judged}
 use Rattle.verdict.specs.Row.{elementAt}
 use Rattle.verdict.specs.OverBits.{sumBits}
 use Rattle.verdict.specs.Check.{checked}
+use Rattle.verdict.specs.Sheet.{oneRow}
 use Rattle.step.specs.Derived.{derived}
 use Rattle.step.specs.Solve.{lacks}
 use Rattle.step.specs.Determining.{beforeHalt, afterHalt, determining}
@@ -32,7 +33,7 @@ use Rattle.step.specs.Laws.Sheet.{with-ones, with-output, derived-ones}
 use Rattle.filler.specs.Met.{conditions, byteOf}
 use Rattle.filler.specs.Laws.MetFirst.{all-true}
 use Rattle.judge.specs.Laws.FillCheckExamples.{filled-and-judged}
-use Rattle.cellprism.specs.BenchSheet.{Filled, oneRow, p6Ones, BenchSheet}
+use Rattle.cellprism.specs.BenchSheet.{Filled, p6Ones, BenchSheet}
 use Rattle.field.specs.Gf.Sheet as field
 use Rattle.layout.specs.Laws.Sheet as layout
 use Rattle.circuit.specs.Laws.House as circuit

@@ -10,7 +10,7 @@ use lib.Dec.{ltb, eqb}
 use lib.ListN.{length, length-append}
 use Rattle.base.specs.Lists.{joined, from, fromEach}
 use Rattle.base.specs.Laws.Tests.{both}
-use Rattle.layout.specs.Batch.{CYCLE-WORDS}
+use Rattle.layout.specs.Batch.{ROW-WORDS}
 use Rattle.layout.specs.Questions.{no}
 use Rattle.layout.specs.Laws.Questions.{if-yes}
 use Rattle.circuit.specs.Rows.{Row, numbered}
@@ -23,22 +23,22 @@ use Rattle.verdict.specs.Check.{Constraint, ofRelation, constraints, met, run, 
 use Rattle.verdict.specs.Laws.Verdicts.{Outcome, all-met, one-fails, outcome, constraint-count}
 use Rattle.cellprism.specs.Bytes.{wordsOf}
 use Rattle.cellprism.specs.Answer.{rowChecked}
-use Rattle.cellprism.specs.Exact.{rowOf, Small, Exact}
+use Rattle.cellprism.specs.Exact.{batchRowOf, Small, Exact}
 use Rattle.cellprism.specs.Laws.Packing.{row-asked}
 
 rowsFit : List Constraint → Bool
 rowsFit [] = true
-rowsFit (k ∷ ks) = ltb (rowOf k) 512 && rowsFit ks
+rowsFit (k ∷ ks) = ltb (batchRowOf k) 512 && rowsFit ks
 
 -- the computed test
 house-fits : rowsFit (constraints 1 circuitRows) ≡ true
 unfolding rowsFit constraints ofRelation circuitRows binFamilies fldFamilies from fromEach joined numbered
 house-fits = refl
 
-row-fits : (xs ys : List Constraint) (k : Constraint) → rowsFit (xs ++ (k ∷ ys)) ≡ true → rowOf k < 512
+row-fits : (xs ys : List Constraint) (k : Constraint) → rowsFit (xs ++ (k ∷ ys)) ≡ true → batchRowOf k < 512
 unfolding rowsFit
-row-fits [] ys k h = ltb-true (rowOf k) 512 (both (ltb (rowOf k) 512) (rowsFit ys) h .0)
-row-fits (x ∷ xs) ys k h = row-fits xs ys k (both (ltb (rowOf x) 512) (rowsFit (xs ++ (k ∷ ys))) h .1)
+row-fits [] ys k h = ltb-true (batchRowOf k) 512 (both (ltb (batchRowOf k) 512) (rowsFit ys) h .0)
+row-fits (x ∷ xs) ys k h = row-fits xs ys k (both (ltb (batchRowOf x) 512) (rowsFit (xs ++ (k ∷ ys))) h .1)
 
 judged-small : (batch : List ℕ) → Small (judged 1 circuitWords batch)
 unfolding judged
@@ -68,6 +68,6 @@ pub exact : (bytes : List ℕ) → Exact (rowChecked bytes)
 unfolding rowChecked houseChecked
 exact bytes = by-test (eqb (length bytes) 65536)
   where
-    by-test : (b : Bool) → Exact (cond b (houseChecked 1 (wordsOf CYCLE-WORDS bytes)) (Refused (no 2 0)))
-    by-test true = subst Exact (if-yes Refused _ (row-asked bytes)) (judged-small (wordsOf CYCLE-WORDS bytes))
+    by-test : (b : Bool) → Exact (cond b (houseChecked 1 (wordsOf ROW-WORDS bytes)) (Refused (no 2 0)))
+    by-test true = subst Exact (if-yes Refused _ (row-asked bytes)) (judged-small (wordsOf ROW-WORDS bytes))
     by-test false = refl

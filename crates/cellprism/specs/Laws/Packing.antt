@@ -15,7 +15,7 @@ use Rattle.base.specs.Laws.Cases.{no-true}
 use Rattle.field.specs.declared.Gf128.{Gf128}
 use Rattle.field.specs.Gf.{one, same}
 use Rattle.layout.specs.declared.Asked.the-variants.{Yes}
-use Rattle.layout.specs.Batch.{allowed, CYCLE-WORDS, batchAsked}
+use Rattle.layout.specs.Batch.{allowed, ROW-WORDS, batchAsked}
 use Rattle.layout.specs.Laws.Questions.{yes-batch}
 use Rattle.verdict.specs.Row.{elementAt}
 use Rattle.packed.specs.Packed.{packedNamed, namedBits}
@@ -44,8 +44,8 @@ unfolding wordsOf
 words-length zero bytes = refl
 words-length (suc n) bytes = ap suc (words-length n (drop 8 bytes))
 
-pub row-length : (bytes : List ℕ) → length (rowOf bytes) ≡ CYCLE-WORDS
-row-length bytes = words-length CYCLE-WORDS bytes
+pub row-length : (bytes : List ℕ) → length (rowOf bytes) ≡ ROW-WORDS
+row-length bytes = words-length ROW-WORDS bytes
 
 pub row-asked : (bytes : List ℕ) → batchAsked 1 (length (rowOf bytes)) ≡ Yes
 unfolding allowed
@@ -63,13 +63,13 @@ number-lt (suc n) (b ∷ bs) h = let r = number-lt n bs (λ i. h (suc i)) in ome
 
 -- each fits in 64 bits
 pub row-fits : (bytes : List ℕ) → ((i : ℕ) → getD bytes i 0 < 256) → (i : ℕ) → getD (rowOf bytes) i 0 < 2 ^ 64
-row-fits bytes h i = go (decLt i CYCLE-WORDS)
+row-fits bytes h i = go (decLt i ROW-WORDS)
   where
     later : (j : ℕ) → getD (drop (8 * i) bytes) j 0 < 256
     later j = subst (λ (x : ℕ). x < 256) (sym (getD-drop (8 * i) bytes j 0)) (h (8 * i + j))
 
-    go : Dec (i < CYCLE-WORDS) → getD (rowOf bytes) i 0 < 2 ^ 64
-    go (yes l) = omega (arith, word-of CYCLE-WORDS i bytes l, number-lt 8 (drop (8 * i) bytes) later)
+    go : Dec (i < ROW-WORDS) → getD (rowOf bytes) i 0 < 2 ^ 64
+    go (yes l) = omega (arith, word-of ROW-WORDS i bytes l, number-lt 8 (drop (8 * i) bytes) later)
     go (no l) = omega (arith, List·getD-eq-default (rowOf bytes) 0 {n = i} (omega (arith, row-length bytes)))
 
 -- ---- the short way

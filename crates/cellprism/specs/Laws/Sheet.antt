@@ -9,7 +9,7 @@ use borrow.Author.Tests.{ne-eqb}
 use lib.ListN.{length, set, replicate, length-replicate, length-set, replicate-append-replicate}
 use Rattle.base.specs.Laws.Tests.{refused}
 use Rattle.layout.specs.Questions.{no}
-use Rattle.layout.specs.Batch.{CYCLE-WORDS}
+use Rattle.layout.specs.Batch.{ROW-WORDS}
 use Rattle.circuit.specs.declared.Relation.the-variants.{Bin}
 use Rattle.verdict.specs.declared.Verdict.the-variants.{Accepted, Failed}
 use Rattle.verdict.specs.declared.CheckAnswer.the-variants.{Judged, Refused}
@@ -41,9 +41,9 @@ bytes-of-zeros (suc n) =
 
 pub zero-bytes : rowChecked (replicate 65536 0) ≡ Judged (Accepted 514)
 zero-bytes =
-    ap rowChecked (sym (bytes-of-zeros CYCLE-WORDS))
-    ∙ row-judged (replicate CYCLE-WORDS 0) (zeros-fit CYCLE-WORDS) (length-replicate {A = ℕ} CYCLE-WORDS 0)
-    ∙ ap Judged (zeros-accepted 1 CYCLE-WORDS)
+    ap rowChecked (sym (bytes-of-zeros ROW-WORDS))
+    ∙ row-judged (replicate ROW-WORDS 0) (zeros-fit ROW-WORDS) (length-replicate {A = ℕ} ROW-WORDS 0)
+    ∙ ap Judged (zeros-accepted 1 ROW-WORDS)
 
 -- ---- P5: only the one column 1, whose lowest byte is byte 16 * 2048
 
@@ -63,9 +63,9 @@ bytes-of-one (suc n) (suc i) =
 
 pub one-column : rowChecked (set (replicate 65536 0) 32768 1) ≡ Judged (Failed Bin 263 264)
 one-column =
-    ap (λ bytes. rowChecked (set bytes 32768 1)) (sym (bytes-of-zeros CYCLE-WORDS)) ∙ ap rowChecked (sym (bytes-of-one CYCLE-WORDS 4096))
-    ∙ row-judged oneRow (one-fits CYCLE-WORDS 4096)
-    (length-set {A = ℕ} (replicate CYCLE-WORDS 0) 4096 1 ∙ length-replicate {A = ℕ} CYCLE-WORDS 0)
+    ap (λ bytes. rowChecked (set bytes 32768 1)) (sym (bytes-of-zeros ROW-WORDS)) ∙ ap rowChecked (sym (bytes-of-one ROW-WORDS 4096))
+    ∙ row-judged oneRow (one-fits ROW-WORDS 4096)
+    (length-set {A = ℕ} (replicate ROW-WORDS 0) 4096 1 ∙ length-replicate {A = ℕ} ROW-WORDS 0)
     ∙ ap Judged one-judged
 
 pub answers : Answers

@@ -33,7 +33,7 @@ use Rattle.filler.specs.declared.derive.GivenWords.{GivenWords}
 use Rattle.filler.specs.declared.derive.DerivedWords.{DerivedWords}
 use Rattle.filler.specs.Derive.{carryWord, runWord, laneWord, branchWord, takenBit}
 use Rattle.filler.specs.Blocks.{putBlocks}
-use Rattle.filler.specs.Words.{wordAt, givenWords, flagsOf, topBitsOf, lanesOf, carryOf, derivedWords, flagBlocks, highBlocks, blocks, fillCycle}
+use Rattle.filler.specs.Words.{wordAt, givenWords, gateFlags, topBitsOf, lanesOf, carryOf, derivedWords, flagBlocks, highBlocks, blocks, fillCycle}
 use Rattle.filler.specs.Laws.Lanes.{same-below}
 use Rattle.filler.specs.Laws.Derive.{flagsAt, topBitsAt, ByWords}
 use Rattle.filler.specs.Laws.Rows.{rows-hold}
@@ -131,7 +131,7 @@ module _ (cpi d : ℕ) (l : d < cpi) (b : List ℕ) (s : length b ≡ batchWords
   flag : (i : ℕ) → i < 64 → derived (FLAGS + i) ≡ false → bitAt (g .flags) i ≡ y (FLAGS + i)
   flag i m e = given-bit FLAGS i m e
 
-  flags-same : flagsOf (g .flags) ≡ flagsAt y
+  flags-same : gateFlags (g .flags) ≡ flagsAt y
   unfolding derived
   flags-same =
       cc (

@@ -1,6 +1,7 @@
 -- What a chain of questions, or a call that asks one, says where it was answered with yes.
 -- Assumes nothing.
 use mathlib.Core.Path.{_≡_, refl, sym, ap, _∙_}
+use mathlib.Core.Logic.{_↔_}
 use mathlib.Core.Bool.{Bool, true, false, cond}
 use mathlib.Core.List.{List}
 use Prim.Native.Nat.{ℕ}
@@ -48,6 +49,11 @@ pub yes-batch : (cpi words : ℕ) → allowed cpi ≡ true → words ≡ batchWo
 unfolding batchAsked
 yes-batch cpi words size length =
     sym (passed _ _ _ (eq-eqb words (batchWords cpi) length) ∙ passed _ _ _ size)
+
+-- which scratch fits, by its number
+pub fits-exactly : (words : ℕ) → (scratchFits words ≡ true) ↔ (words ≡ 3072)
+unfolding scratchFits
+fits-exactly words = (eqb-true words 3072, eq-eqb words 3072)
 
 -- there is scratch that fits
 pub some-scratch : scratchFits (length {A = ℕ} (replicate SCRATCH-WORDS 0)) ≡ true

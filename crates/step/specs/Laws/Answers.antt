@@ -7,7 +7,7 @@ use mathlib.Core.List.{List, []}
 use Prim.Native.Nat.{ℕ}
 use lib.ListN.{length, replicate}
 use Rattle.layout.specs.declared.Refusal.{Refusal}
-use Rattle.layout.specs.Batch.{allowed, scratchFits, CYCLE-WORDS, batchAsked}
+use Rattle.layout.specs.Batch.{allowed, scratchFits, ROW-WORDS, batchAsked}
 use Rattle.layout.specs.Questions.{no}
 use Rattle.circuit.specs.declared.Relation.{Relation}
 use Rattle.circuit.specs.declared.Relation.the-variants.{Bin}
@@ -53,7 +53,7 @@ pub record GivenCalls (scratch : List ℕ) : Type 0 where
   pub no-size : GivenCall 3 [] scratch (Refused (no 1 0)) false false
   pub no-words : GivenCall 1 [] scratch (Refused (no 2 0)) false false
   -- the row of zeros, and that with 1 in the one column alone
-  pub zero-row : GivenCall 1 (replicate CYCLE-WORDS 0) scratch (Judged (Accepted 514)) true false
+  pub zero-row : GivenCall 1 (replicate ROW-WORDS 0) scratch (Judged (Accepted 514)) true false
   pub one-row : GivenCall 1 oneRow scratch (Judged (Failed Bin 263 264)) false true
 
 pub given-calls : (scratch : List ℕ) → scratchFits (length scratch) ≡ true → GivenCalls scratch
@@ -64,7 +64,7 @@ given-calls scratch room =
       no-words = record { answer-is = refl; told-is = answers 1 circuitWords [] scratch .refused (no 2 0) refl };
       zero-row =
           let e = ap (λ c. c .answer) (p4 scratch room) in
-          record { answer-is = e; told-is = answers 1 circuitWords (replicate CYCLE-WORDS 0) scratch .accepted 514 e };
+          record { answer-is = e; told-is = answers 1 circuitWords (replicate ROW-WORDS 0) scratch .accepted 514 e };
       one-row =
           let e = ap (λ c. c .answer) (p5 scratch room) in
           record { answer-is = e; told-is = answers 1 circuitWords oneRow scratch .failed Bin 263 264 e };

@@ -20,7 +20,7 @@ use Rattle.field.specs.Gf.Tests.{isBit-bit}
 use Rattle.field.specs.Gf.Bits.{low-bit, bit-words}
 use Rattle.field.specs.Gf.Laws.{low-words}
 use Rattle.layout.specs.Columns.{ONE-COL}
-use Rattle.layout.specs.Batch.{among, columnAt, CYCLE-WORDS}
+use Rattle.layout.specs.Batch.{among, columnAt, ROW-WORDS}
 use Rattle.layout.specs.Laws.Mapping.{column-is}
 use Rattle.circuit.specs.Rows.{Sides}
 use Rattle.verdict.specs.Row.{elementAt, cycleOf, bitsOf}
@@ -41,19 +41,19 @@ use Rattle.step.specs.Laws.Batch.{one-bit, of-bits, filled-cycle}
 
 -- a row that holds 1 in the columns cs, n in the public element, and 0 elsewhere
 pub record Holding (cs : List ℕ) (n : ℕ) (row : List ℕ) : Type 0 where
-  pub words : length row ≡ CYCLE-WORDS
+  pub words : length row ≡ ROW-WORDS
   pub low-word : (c : ℕ) → (c ≡ ONE-COL + 1 → ⊥) → getD row (2 * c) 0 ≡ digit (has cs c)
   pub output : getD row (2 * (ONE-COL + 1)) 0 ≡ n
   pub high-word : (c : ℕ) → getD row (2 * c + 1) 0 ≡ 0
 
-pub holding-none : Holding [] 0 (replicate CYCLE-WORDS 0)
+pub holding-none : Holding [] 0 (replicate ROW-WORDS 0)
 unfolding has
 holding-none =
     record {
-      words = length-replicate {A = ℕ} CYCLE-WORDS 0;
-      low-word = λ c _. zeros CYCLE-WORDS (2 * c);
-      output = zeros CYCLE-WORDS 4098;
-      high-word = λ c. zeros CYCLE-WORDS (2 * c + 1);
+      words = length-replicate {A = ℕ} ROW-WORDS 0;
+      low-word = λ c _. zeros ROW-WORDS (2 * c);
+      output = zeros ROW-WORDS 4098;
+      high-word = λ c. zeros ROW-WORDS (2 * c + 1);
     }
 
 module _ (cs : List ℕ) (n : ℕ) (row : List ℕ) (h : Holding cs n row) where
@@ -91,7 +91,7 @@ holding-ones (x ∷ xs) cs n row h t =
 
 -- P5's row
 pub holding-oneRow : Holding (ONE-COL ∷ []) 0 oneRow
-holding-oneRow = holding-one [] 0 (replicate CYCLE-WORDS 0) holding-none ONE-COL (omega arith)
+holding-oneRow = holding-one [] 0 (replicate ROW-WORDS 0) holding-none ONE-COL (omega arith)
 
 -- ---- as elements and as bits
 

@@ -13,7 +13,7 @@ use Rattle.base.specs.Lists.{joined, from, fromEach}
 use Rattle.base.specs.Laws.Lists.{all-every}
 use Rattle.field.specs.Gf.{ofWords, ofBit}
 use Rattle.field.specs.Gf.Laws.{words-zero, words-one}
-use Rattle.layout.specs.Batch.{allowed, columnAt, scratchFits, CYCLE-WORDS}
+use Rattle.layout.specs.Batch.{allowed, columnAt, scratchFits, ROW-WORDS}
 use Rattle.layout.specs.Laws.Mapping.{column-is}
 use Rattle.circuit.specs.declared.Relation.the-variants.{Bin, Fld}
 use Rattle.circuit.specs.Rows.{Row, numbered}
@@ -33,7 +33,7 @@ use Rattle.field.specs.Gf as gf
 
 -- ---- the questions are passed, whatever stands in batch and scratch
 
-pub checked-is : (batch scratch : List ℕ) → length batch ≡ CYCLE-WORDS → scratchFits (length scratch) ≡ true
+pub checked-is : (batch scratch : List ℕ) → length batch ≡ ROW-WORDS → scratchFits (length scratch) ≡ true
     → checked 1 circuitWords batch scratch
     ≡ record { answer = Judged (judged 1 circuitWords batch); scratch = replicate (length scratch) 0 }
 unfolding allowed
@@ -59,11 +59,11 @@ zeros-accepted cpi n =
     ∙ ap (λ (rs : List Row). Accepted (cpi * length rs)) words-read ∙ ap (λ (k : ℕ). Accepted (cpi * k)) (counts .rows)
 
 pub p4 : (scratch : List ℕ) → scratchFits (length scratch) ≡ true
-    → checked 1 circuitWords (replicate CYCLE-WORDS 0) scratch
+    → checked 1 circuitWords (replicate ROW-WORDS 0) scratch
     ≡ record { answer = Judged (Accepted 514); scratch = replicate (length scratch) 0 }
 p4 scratch s =
-    checked-is (replicate CYCLE-WORDS 0) scratch (length-replicate {A = ℕ} CYCLE-WORDS 0) s
-    ∙ ap (λ v. record { answer = Judged v; scratch = replicate (length scratch) 0 }) (zeros-accepted 1 CYCLE-WORDS)
+    checked-is (replicate ROW-WORDS 0) scratch (length-replicate {A = ℕ} ROW-WORDS 0) s
+    ∙ ap (λ v. record { answer = Judged v; scratch = replicate (length scratch) 0 }) (zeros-accepted 1 ROW-WORDS)
 
 -- zeros, and 1 in element p: as bits
 pub element-alone : (n p c : ℕ) → 2 * p < n → elementAt (set (replicate n 0) (2 * p) 1) c ≡ ofBit (eqb p c)
@@ -83,7 +83,7 @@ element-alone n p c h = by-test (eqb p c) refl
 
 one-view : (c : ℕ) → cycleOf 1 oneRow 0 c ≡ ofBit (eqb 2048 c)
 unfolding cycleOf
-one-view c = ap (elementAt oneRow) (column-is c) ∙ element-alone CYCLE-WORDS 2048 c (omega arith)
+one-view c = ap (elementAt oneRow) (column-is c) ∙ element-alone ROW-WORDS 2048 c (omega arith)
 
 -- the two computed tests of the bin rows
 bins : List Row
@@ -107,5 +107,5 @@ one-judged =
 pub p5 : (scratch : List ℕ) → scratchFits (length scratch) ≡ true
     → checked 1 circuitWords oneRow scratch ≡ record { answer = Judged (Failed Bin 263 264); scratch = replicate (length scratch) 0 }
 p5 scratch s =
-    checked-is oneRow scratch (length-set {A = ℕ} (replicate CYCLE-WORDS 0) 4096 1 ∙ length-replicate {A = ℕ} CYCLE-WORDS 0) s
+    checked-is oneRow scratch (length-set {A = ℕ} (replicate ROW-WORDS 0) 4096 1 ∙ length-replicate {A = ℕ} ROW-WORDS 0) s
     ∙ ap (λ v. record { answer = Judged v; scratch = replicate (length scratch) 0 }) one-judged

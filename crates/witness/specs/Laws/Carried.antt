@@ -12,7 +12,7 @@ use Rattle.base.specs.Blocks.{columnBit}
 use Rattle.base.specs.Laws.Values.{digit-lt}
 use Rattle.base.specs.Laws.Bits.{bit-digit}
 use Rattle.layout.specs.Columns.{FLAGS, FETCH, EQA, OPSYS}
-use Rattle.layout.specs.Batch.{CYCLE-WORDS}
+use Rattle.layout.specs.Batch.{ROW-WORDS}
 use Rattle.filler.specs.declared.derive.DerivedWords.{DerivedWords}
 use Rattle.filler.specs.Derive.{carryWord, opcodeRun, laneWord, compareWord, branchWord}
 use Rattle.filler.specs.Words.{derivedWords}
@@ -202,6 +202,6 @@ module _ (r : CycleRecord) (m : RomRow) where
     words-bits c = sym (table-bit (table r m) (rowWords r m) in-groups carries-each c)
 
     -- written by words, the row is the table's
-    pub made-by-words : (public : List ℕ) → from 0 CYCLE-WORDS (rowWord (bitIn (rowWords r m)) public) ≡ madeRow r m public
+    pub made-by-words : (public : List ℕ) → from 0 ROW-WORDS (rowWord (bitIn (rowWords r m)) public) ≡ madeRow r m public
     unfolding madeRow
-    made-by-words public = ap (λ (bit : ℕ → Bool). from 0 CYCLE-WORDS (rowWord bit public)) (fun-ext words-bits)
+    made-by-words public = ap (λ (bit : ℕ → Bool). from 0 ROW-WORDS (rowWord bit public)) (fun-ext words-bits)

@@ -7,9 +7,9 @@ use native.Mathlib.Nat.{zero-add}
 use native.Mathlib.Omega.{arith}
 use lib.ListN.{length, getD, set, length-set, List·getD-eq-default}
 use Rattle.base.specs.Lists.{from}
-use Rattle.base.specs.Written.{Written}
+use Rattle.base.specs.Written.{Written, copied}
 use Rattle.base.specs.Laws.From.{getD-from}
-use Rattle.base.specs.Laws.Written.{written-none, written-more, written-to, written-same, written-then, written-all}
+use Rattle.base.specs.Laws.Written.{written-none, written-more, written-to, written-same, written-then, written-all, copied-fits}
 use Rattle.field.specs.Gf.{ofWords}
 use Rattle.field.specs.Gf.Laws.{words-zero, words-one}
 use Rattle.verdict.specs.Row.{elementAt}
@@ -33,22 +33,32 @@ module _ (start : ℕ) (public : List ℕ) where
   behind : (i : ℕ) → start + 2 + length public ≤ i → 0 ≡ f i
   behind i l = sym (public-word public (i - start) (omega arith) ∙ List·getD-eq-default public 0 (omega arith))
 
-  pub room-left : (before copied : List ℕ) → start + 2 + length public ≤ length before
-      → Written f (start + 2) (start + 2 + length public) (set (set before start 1) (start + 1) 0) copied
-      → start + 2 + length public ≤ length copied
-  room-left before copied room w = omega (arith, w .lengths, length-set (set before start 1) (start + 1) 0, length-set before start 1)
+  values-written : (before after : List ℕ) → start + 2 + length public ≤ length before
+      → Written (copied public (start + 2) before) (start + 2) (length before) before after
+      → Written f (start + 2) (start + 2 + length public) before after
+  values-written before after room w =
+      written-same _ f (start + 2) (start + 2 + length public) before after
+      (λ i l m.
+      let place : i - (start + 2) ≡ i - start - 2 = omega arith in
+      ap (λ (n : ℕ). getD public n 0) place ∙ sym (public-word public (i - start) (omega arith)))
+      (copied-fits public (start + 2) before after room w)
 
-  pub upper-written : (before copied cleared : List ℕ) → start + 2 + length public ≤ length before
-      → Written f (start + 2) (start + 2 + length public) (set (set before start 1) (start + 1) 0) copied
-      → Written (λ i. 0) (start + 2 + length public) (length copied) copied cleared → Written f start (length before) before cleared
-  upper-written before copied cleared room w z =
+  abbrev ones : List ℕ → List ℕ
+  ones before = set (set before start 1) (start + 1) 0
+
+  pub upper-written : (before between cleared : List ℕ) → start + 2 + length public ≤ length before
+      → Written (copied public (start + 2) (ones before)) (start + 2) (length (ones before)) (ones before) between
+      → Written (λ i. 0) (start + 2 + length public) (length between) between cleared → Written f start (length before) before cleared
+  upper-written before between cleared room w z =
+      let size : length (ones before) ≡ length before = length-set (set before start 1) (start + 1) 0 ∙ length-set before start 1 in
       let low = written-more f start start before before 1 one-low (omega arith) (omega arith) (written-none f start before) in
       let high = written-more f start (start + 1) before (set before start 1) 0 one-high (omega arith) (omega arith) low in
-      let ones = written-to f start (start + 1 + 1) (start + 2) before _ (omega arith) high in
-      let values = written-then f start (start + 2) (start + 2 + length public) before _ copied (omega arith) (omega arith) ones w in
-      let rest = written-same (λ i. 0) f (start + 2 + length public) (length copied) copied cleared (λ i l _. behind i l) z in
-      written-to f start (length copied) (length before) before cleared (values .lengths)
-      (written-then f start (start + 2 + length public) (length copied) before copied cleared (omega arith)
+      let one = written-to f start (start + 1 + 1) (start + 2) before _ (omega arith) high in
+      let values = written-then f start (start + 2) (start + 2 + length public) before _ between (omega arith) (omega arith) one
+      (values-written (ones before) between (omega arith) w) in
+      let rest = written-same (λ i. 0) f (start + 2 + length public) (length between) between cleared (λ i l _. behind i l) z in
+      written-to f start (length between) (length before) before cleared (values .lengths)
+      (written-then f start (start + 2 + length public) (length between) before between cleared (omega arith)
       (omega (arith, values .lengths)) values rest)
 
 -- n words, whose one column is in the middle

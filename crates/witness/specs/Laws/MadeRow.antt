@@ -18,7 +18,7 @@ use Rattle.field.specs.declared.Gf128.{Gf128}
 use Rattle.field.specs.Gf.{ofWords, isBit, ofBit}
 use Rattle.field.specs.Gf.Tests.{isBit-bit}
 use Rattle.field.specs.Gf.Bits.{bit-words}
-use Rattle.layout.specs.Batch.{allowed, CYCLE-WORDS}
+use Rattle.layout.specs.Batch.{allowed, ROW-WORDS}
 use Rattle.layout.specs.Laws.Questions.{if-yes, yes-batch}
 use Rattle.verdict.specs.declared.bits.BitAnswer.the-variants.{AllBits, Refused}
 use Rattle.verdict.specs.Row.{elementAt}
@@ -33,9 +33,9 @@ module _ (r : CycleRecord) (m : RomRow) (public : List ℕ) where
   abbrev pub row : List ℕ
   row = madeRow r m public
 
-  pub row-length : length row ≡ CYCLE-WORDS
+  pub row-length : length row ≡ ROW-WORDS
   unfolding madeRow
-  row-length = length-from (rowWord (rowBit r m) public) CYCLE-WORDS 0
+  row-length = length-from (rowWord (rowBit r m) public) ROW-WORDS 0
 
   -- ---- its elements
 
@@ -43,7 +43,7 @@ module _ (r : CycleRecord) (m : RomRow) (public : List ℕ) where
   pub bit-at : (c : ℕ) → c < 2048 → elementAt row c ≡ ofBit (rowBit r m c)
   unfolding madeRow bitWord
   bit-at c l =
-      let here = lower-at CYCLE-WORDS 2048 refl (bitWord (rowBit r m)) public in
+      let here = lower-at ROW-WORDS 2048 refl (bitWord (rowBit r m)) public in
       let even : eqb (2 * c % 2) 0 ≡ true = eq-eqb (2 * c % 2) 0 (omega arith) in
       let odd : eqb ((2 * c + 1) % 2) 0 ≡ false = ne-eqb ((2 * c + 1) % 2) 0 (λ e. omega arith) in
       let column : 2 * c / 2 ≡ c = omega arith in
@@ -54,16 +54,16 @@ module _ (r : CycleRecord) (m : RomRow) (public : List ℕ) where
 
   pub one-is : elementAt row 2048 ≡ gf.one
   unfolding madeRow
-  one-is = one-at CYCLE-WORDS 2048 refl (bitWord (rowBit r m)) public (omega arith)
+  one-is = one-at ROW-WORDS 2048 refl (bitWord (rowBit r m)) public (omega arith)
 
   -- public value j stands at one_col + 1 + j, and behind them all is 0
   pub values : (j : ℕ) → 2049 + j < 4096 → elementAt row (2049 + j) ≡ elementAt public j
   unfolding madeRow
-  values j l = value-at CYCLE-WORDS 2048 refl (bitWord (rowBit r m)) public j l
+  values j l = value-at ROW-WORDS 2048 refl (bitWord (rowBit r m)) public j l
 
   pub rest : (j : ℕ) → length public ≤ 2 * j → 2049 + j < 4096 → elementAt row (2049 + j) ≡ gf.zero
   unfolding madeRow
-  rest j l h = rest-at CYCLE-WORDS 2048 refl (bitWord (rowBit r m)) public j l h
+  rest j l h = rest-at ROW-WORDS 2048 refl (bitWord (rowBit r m)) public j l h
 
   -- ---- it is bits below the one column: the bit test says all bits
 

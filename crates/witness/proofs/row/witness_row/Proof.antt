@@ -10,7 +10,7 @@ use Rattle.layout.specs.declared.Asked.{Asked}
 use Rattle.layout.specs.declared.Asked.the-variants.{Yes}
 use Rattle.base.specs.Lists.{from}
 use Rattle.layout.specs.Questions.{after}
-use Rattle.layout.specs.Batch.{CYCLE-WORDS}
+use Rattle.layout.specs.Batch.{ROW-WORDS}
 use Rattle.witness.specs.Row.{rowWord, madeRow, rowCalled}
 use Rattle.witness.specs.Laws.Upper.{public-yes}
 use Rattle.witness.specs.Laws.RowWords.{Words}
@@ -47,7 +47,7 @@ returns-2 c =
     } in
     let yes = sym (k .ask-public .ensures) ∙ t .enum-told .given .1 in
     ap (λ (b : List ℕ). record { answer = Yes; batch = b })
-    (f .write-row .ensures ∙ ap (λ (ws : List ℕ). from 0 CYCLE-WORDS (rowWord (bitIn ws) (now (a .public)))) (made .row-words .ensures)
+    (f .write-row .ensures ∙ ap (λ (ws : List ℕ). from 0 ROW-WORDS (rowWord (bitIn ws) (now (a .public)))) (made .row-words .ensures)
     ∙ made-by-words (a .cycle) (a .rom) fit (now (a .public)))
     ∙ ap (λ (q : Asked). after q (madeRow (a .cycle) (a .rom) (now (a .public))) (now (a .row))) (sym yes)
 

@@ -4,7 +4,7 @@ use mathlib.Core.Path.{refl}
 use native.Mathlib.Omega.{arith}
 use denote.Ref.{now}
 use borrow.Author.Needs.{needs}
-use Rattle.layout.specs.Batch.{CYCLE-WORDS}
+use Rattle.layout.specs.Batch.{ROW-WORDS}
 use Rattle.witness.specs.Row.{bitWord}
 use Rattle.witness.specs.RowWords.{bitIn}
 use Rattle.witness.specs.Laws.Halves.{halves-written}
@@ -21,7 +21,7 @@ returns : tie.Need-returns
 returns c =
     let upper = c .before .before in let lower = upper .before .before .before .before in
     let start = lower .before .before .before .before .before in let a = start .args in
-    halves-written CYCLE-WORDS 2048 refl (bitWord (bitIn (now (a .words)))) (now (a .public)) 4096 refl (a .row .now) _ _ (start .pre .0)
+    halves-written ROW-WORDS 2048 refl (bitWord (bitIn (now (a .words)))) (now (a .public)) 4096 refl (a .row .now) _ _ (start .pre .0)
     (lower .write-words .ensures)
     (upper .write-upper .ensures)
 
