@@ -1,7 +1,7 @@
 -- Laws, which the prover checks; nobody has to believe them.
 --     Adder             the adder for any width: the sum that wraps is, bit by bit, the exclusive or of both words and the carries
 --     Bits              bits of numbers, for any width: of a sum that wraps, of its carries, and of what word operations make
---     Blocks            a column is in a block, and blocks in ascending order: each one's columns hold its word's bits
+--     Blocks            a column is in a block, what is so of every such column, and blocks in ascending order, each with its word's bits
 --     Cases             identities of Booleans, by computing every case
 --     Chain             a chain, a running product of comparisons of bits, says at its end whether two words are equal
 --     Compare           the comparisons for any width, from a - b as a + (complement of b) + 1
@@ -14,6 +14,7 @@
 --     Sums              equal terms make equal sums
 --     Tests             one question peeled off a chain of them, and two tests at once
 --     Values            the number that bits make up: equal bits, equal numbers; the top bit; the complement
+--     WaysOut           a way out of a function that its tests pick is the case that a definition picks by the same tests
 --     Words             a word halved at each turn of a loop, and three words added one after the other
 --     Written           what loops have written: nothing yet, one entry or piece more, and in the end all of it
 pub mod Adder
@@ -31,5 +32,6 @@ pub mod Numbers
 pub mod Sums
 pub mod Tests
 pub mod Values
+pub mod WaysOut
 pub mod Words
 pub mod Written

@@ -1,6 +1,6 @@
 -- Answers as single numbers, for a caller in another language. A refusal is the same number everywhere, `refusedAt`.
 -- Assumes nothing.
-use mathlib.Core.Bool.{Bool, cond}
+use mathlib.Core.Bool.{cond}
 use mathlib.Core.List.{List, [], _∷_, _++_}
 use Prim.Native.Nat.{ℕ, zero, suc, _+_, _-_, _*_, _%_, _^_}
 use lib.Dec.{eqb, ltb}
@@ -31,10 +31,10 @@ use Rattle.circuit.specs.declared.batch.CycleRowAnswer.{CycleRowAnswer}
 use Rattle.circuit.specs.declared.batch.CycleRowAnswer.the-variants.{At as RowOf, Refused as NoCycleRow}
 use Rattle.circuit.specs.declared.search.Found.{Found}
 use Rattle.circuit.specs.declared.search.Found.the-variants.{At as Stands, Refused as NotFound}
-use Rattle.circuit.specs.Words.{sideKind}
+use Rattle.circuit.specs.Words.{sideKind, relationOf, coefficientOf, cleanOf, wordOf as meaningOf}
 use Rattle.circuit.specs.Valid.{validated}
 use Rattle.circuit.specs.Found.{found, partOf}
-use Rattle.circuit.specs.Reader.{admitted, positionAfter}
+use Rattle.circuit.specs.Reader.{admitted, positionAfter, rowRead}
 use Rattle.verdict.specs.declared.Verdict.{Verdict}
 use Rattle.verdict.specs.declared.Verdict.the-variants.{Accepted, Failed}
 use Rattle.verdict.specs.declared.CheckAnswer.{CheckAnswer}
@@ -53,9 +53,13 @@ use Rattle.packed.specs.Packed.{PackCalled}
 use Rattle.judge.specs.FillCheck.{FillChecked}
 use Rattle.compare.specs.declared.reader.TwoRows.{TwoRows}
 
+-- the first number for part 0, else the second
+abbrev pub oneOf : ℕ → ℕ → ℕ → ℕ
+oneOf part first second = cond (eqb part 0) first second
+
 -- the low word of an element for 0, else the high one
 abbrev pub wordOf : ℕ → Gf128 → ℕ
-wordOf part e = cond (eqb part 0) (low e) (high e)
+wordOf part e = oneOf part (low e) (high e)
 
 -- a place as it is handed out: one from 2^32 - 1 on, which no batch and no listing has, stands as that, so that no wrong place looks
 -- like a right one
@@ -82,12 +86,12 @@ columnNumber (At c) = c
 columnNumber (NoColumn r) = refusedAt r
 
 abbrev pub cycleColumnNumber : ℕ → CycleColumnAnswer → ℕ
-cycleColumnNumber part (In c d) = cond (eqb part 0) c d
+cycleColumnNumber part (In c d) = oneOf part c d
 cycleColumnNumber part (NoCycleColumn r) = refusedAt r
 
 -- part 0 is the row of a cycle, any other the cycle
 abbrev pub cycleRowNumber : ℕ → CycleRowAnswer → ℕ
-cycleRowNumber part (RowOf d r) = cond (eqb part 0) r d
+cycleRowNumber part (RowOf d r) = oneOf part r d
 cycleRowNumber part (NoCycleRow r) = refusedAt r
 
 -- 2^k is its exponent, zero is 255
@@ -95,9 +99,13 @@ abbrev pub coefficientNumber : Coefficient → ℕ
 coefficientNumber Zero = 255
 coefficientNumber (Power k) = k
 
+-- one number for bin, another for fld
+abbrev pub byRelation : Relation → ℕ → ℕ → ℕ
+byRelation Bin bin fld = bin
+byRelation Fld bin fld = fld
+
 abbrev pub markNumber : Relation → ℕ
-markNumber Bin = 3
-markNumber Fld = 4
+markNumber rel = byRelation rel 3 4
 
 -- a batch row or column, 2^32 times the coefficient, and 2^40 times the kind: 0, 1, 2 a term of A, B, C; 3 a bin and 4 a fld mark
 abbrev pub batchNumber : BatchWord → ℕ
@@ -110,8 +118,12 @@ abbrev pub wordNumber : Word → ℕ
 wordNumber (Mark rel n) = batchNumber (Row rel n)
 wordNumber (OneTerm side k c) = batchNumber (Term side k c)
 
-abbrev pub yesNumber : Bool → ℕ
-yesNumber b = cond b 1 0
+-- of a word: part 0 is what it stands for, 1 its relation, 2 its coefficient, any other 1 where its must-be-zero bits are zero, else 0
+abbrev pub wordPart : ℕ → ℕ → ℕ
+wordPart zero w = wordNumber (meaningOf w)
+wordPart (suc zero) w = markNumber (relationOf w)
+wordPart (suc (suc zero)) w = coefficientNumber (coefficientOf w)
+wordPart (suc (suc (suc n))) w = cond (cleanOf w) 1 0
 
 -- ---- entries of a list
 
@@ -121,16 +133,11 @@ entryOf i xs = getD xs i (2 ^ 63)
 
 -- ---- the check
 
--- 2^62, and 2^61 for fld
-abbrev pub failedIn : Relation → ℕ
-failedIn Bin = 2 ^ 62
-failedIn Fld = 2 ^ 62 + 2 ^ 61
-
--- accepted: the rows tested; failed: its relation, 2^32 times the rows tested, and the batch row. Of the rows 29 bits are kept, of a
--- batch row 32, which is more than a batch has
+-- accepted: the rows tested; failed: 2^62, and 2^61 for fld, 2^32 times the rows tested, and the batch row. Of the rows 29 bits are
+-- kept, of a batch row 32, which is more than a batch has
 abbrev pub verdictNumber : Verdict → ℕ
 verdictNumber (Accepted rows) = rows % 2 ^ 29
-verdictNumber (Failed rel row rows) = failedIn rel + rows % 2 ^ 29 * 2 ^ 32 + row % 2 ^ 32
+verdictNumber (Failed rel row rows) = byRelation rel (2 ^ 62) (2 ^ 62 + 2 ^ 61) + rows % 2 ^ 29 * 2 ^ 32 + row % 2 ^ 32
 
 abbrev pub checkNumber : CheckAnswer → ℕ
 checkNumber (Judged v) = verdictNumber v
@@ -224,7 +231,11 @@ endNumber (NotFound r) = 0
 
 -- part 0 is where a row starts, any other its end
 abbrev pub foundNumber : ℕ → Found → ℕ
-foundNumber part f = cond (eqb part 0) (startNumber f) (endNumber f)
+foundNumber part f = oneOf part (startNumber f) (endNumber f)
+
+-- a row sought in any words for 0, else in words that are opened first
+abbrev pub sought : ℕ → List ℕ → Relation → ℕ → Found
+sought opened ws rel n = cond (eqb opened 0) (found ws rel n) (rowRead ws rel n)
 
 -- any start and end for 0, else a refusal
 abbrev pub chosenPlace : ℕ → ℕ → ℕ → Found

@@ -1,13 +1,13 @@
 // The check, by itself and behind the filler, a row's sums and the bit test.
 ghost use mathlib.Core.Path.{_≡_};
 ghost use mathlib.Core.List.{_++_};
-ghost use Prim.Native.Nat.{_<_, _≤_, _^_};
+ghost use Prim.Native.Nat.{_+_, _<_, _≤_, _^_};
 ghost use lib.ListN.{length, drop};
 ghost use Rattle.verdict.specs.Check.{checked, houseChecked};
 ghost use Rattle.verdict.specs.Apply.{applied};
 ghost use Rattle.verdict.specs.Bits.{bitTested};
 ghost use Rattle.judge.specs.FillCheck.{fillChecked};
-ghost use Rattle.compare.specs.Numbers.{keptPlace, refusedAt, failedIn, verdictNumber, checkNumber, reply, checkReply, fillCheckReply, chosenRelation, sumWords, sumsReply, applyReply, bitNumber};
+ghost use Rattle.compare.specs.Numbers.{keptPlace, refusedAt, byRelation, verdictNumber, checkNumber, reply, checkReply, fillCheckReply, chosenRelation, sumWords, sumsReply, applyReply, bitNumber};
 use circuit::Relation;
 use layout::Refusal;
 use verdict::ApplyAnswer;
@@ -32,12 +32,13 @@ pub fn refused_at(r: Refusal) -> u64
     0x8000000000000000 + r.number as u64 * 0x100000000 + kept_place(r.place)
 }
 
-fn failed_in(relation: Relation) -> u64
-    ensures { λ n. ⌜ n ≡ failedIn relation ⌝ }
+// One number for bin, another for fld.
+pub fn by_relation(relation: Relation, bin: u64, fld: u64) -> u64
+    ensures { λ n. ⌜ (n ≡ byRelation relation bin fld) × (n ≤ bin + fld) ⌝ }
 {
     match relation {
-        Relation::Bin => 0x4000000000000000,
-        Relation::Fld => 0x6000000000000000,
+        Relation::Bin => bin,
+        Relation::Fld => fld,
     }
 }
 
@@ -51,7 +52,9 @@ fn verdict_number(v: Verdict) -> u64
             row,
             rows,
         } => {
-            failed_in(relation) + rows as u64 % 0x20000000 * 0x100000000 + row as u64 % 0x100000000
+            by_relation(relation, 0x4000000000000000, 0x6000000000000000)
+                + rows as u64 % 0x20000000 * 0x100000000
+                + row as u64 % 0x100000000
         }
     }
 }
@@ -65,42 +68,31 @@ fn check_number(answer: CheckAnswer) -> u64
     }
 }
 
+// Here and in the next, way 0 is the product's check, any other number the plain walk.
 #[no_mangle]
 pub extern "C" fn compare_check_row(
+    way: u32,
     cpi: usize,
     listing: &[u32],
     batch: &[u64],
     scratch: &mut [u64],
 ) -> u64
-    ensures { λ r. ⌜ reply r (now (scratch .exit)) ≡ checkReply (checked cpi (now (listing .entry)) (now (batch .entry)) (now (scratch .entry))) ⌝ }
+    ensures { λ r.
+        ⌜ reply r (now (scratch .exit)) ≡ checkReply (checked cpi (now (listing .entry)) (now (batch .entry)) (now (scratch .entry))) ⌝ }
 {
-    check_number(judge::check_row(cpi, listing, batch, scratch))
-}
-
-#[no_mangle]
-pub extern "C" fn compare_check_house(cpi: usize, batch: &[u64]) -> u64
-    ensures { λ r. ⌜ r ≡ checkNumber (houseChecked cpi (now (batch .entry))) ⌝ }
-{
-    check_number(judge::check_house(cpi, batch))
-}
-
-// The plain walk, whatever the two above are bound to.
-#[no_mangle]
-pub extern "C" fn compare_check_row_plain(
-    cpi: usize,
-    listing: &[u32],
-    batch: &[u64],
-    scratch: &mut [u64],
-) -> u64
-    ensures { λ r. ⌜ reply r (now (scratch .exit)) ≡ checkReply (checked cpi (now (listing .entry)) (now (batch .entry)) (now (scratch .entry))) ⌝ }
-{
+    if way == 0 {
+        return check_number(judge::check_row(cpi, listing, batch, scratch));
+    }
     check_number(verdict::check_row(cpi, listing, batch, scratch))
 }
 
 #[no_mangle]
-pub extern "C" fn compare_check_house_plain(cpi: usize, batch: &[u64]) -> u64
+pub extern "C" fn compare_check_house(way: u32, cpi: usize, batch: &[u64]) -> u64
     ensures { λ r. ⌜ r ≡ checkNumber (houseChecked cpi (now (batch .entry))) ⌝ }
 {
+    if way == 0 {
+        return check_number(judge::check_house(cpi, batch));
+    }
     check_number(verdict::check_house(cpi, batch))
 }
 
@@ -156,7 +148,9 @@ pub extern "C" fn compare_apply(
     cycle: usize,
     out: &mut [u64],
 ) -> u64
-    ensures { λ r. ⌜ reply r (now (out .exit)) ≡ applyReply (applied cpi (now (listing .entry)) (now (batch .entry)) (chosenRelation relation) row cycle) (now (out .entry)) ⌝ }
+    ensures { λ r.
+        ⌜ reply r (now (out .exit))
+        ≡ applyReply (applied cpi (now (listing .entry)) (now (batch .entry)) (chosenRelation relation) row cycle) (now (out .entry)) ⌝ }
 {
     if out.len() < 6 {
         return 0x8000000000000000;

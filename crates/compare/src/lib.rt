@@ -17,7 +17,8 @@ ghost use Rattle.layout.specs.Batch.{geometryOf, mapped, unmapped};
 ghost use Rattle.circuit.specs.Circuit.{circuitWords};
 ghost use Rattle.circuit.specs.Batched.{batched, unmappedRow};
 ghost use lib.ListN.{getD};
-ghost use Rattle.compare.specs.Numbers.{wordOf, geometryPart, geometryNumber, columnNumber, cycleColumnNumber, cycleRowNumber, chosenRelation, coefficientNumber, markNumber, batchNumber};
+ghost use Rattle.compare.specs.Numbers.{oneOf, wordOf, geometryPart, geometryNumber, columnNumber, cycleColumnNumber, cycleRowNumber, chosenRelation, coefficientNumber, markNumber, batchNumber};
+use crate::check::by_relation;
 use crate::check::chosen_relation;
 use crate::check::refused_at;
 use circuit::Coefficient;
@@ -30,10 +31,17 @@ use layout::CycleColumnAnswer;
 use layout::GeometryAnswer;
 use layout::InstanceGeometry;
 
+// The first number for part 0, else the second.
+pub fn one_of(part: u32, first: u64, second: u64) -> u64
+    ensures { λ r. ⌜ r ≡ oneOf part first second ⌝ }
+{
+    if part == 0 { first } else { second }
+}
+
 fn word_of(e: Gf128, word: u32) -> u64
     ensures { λ r. ⌜ r ≡ wordOf word e ⌝ }
 {
-    if word == 0 { e.low() } else { e.high() }
+    one_of(word, e.low(), e.high())
 }
 
 #[no_mangle]
@@ -122,9 +130,7 @@ pub extern "C" fn compare_way_back(cpi: usize, column: usize, part: u32) -> u64
 {
     let answer = layout::unmap_col(cpi, column);
     match answer {
-        CycleColumnAnswer::At { column: c, cycle } => {
-            if part == 0 { c as u64 } else { cycle as u64 }
-        }
+        CycleColumnAnswer::At { column: c, cycle } => one_of(part, c as u64, cycle as u64),
         CycleColumnAnswer::Refused(r) => refused_at(r),
     }
 }
@@ -140,7 +146,7 @@ pub extern "C" fn compare_row_way_back(
 {
     let answer = circuit::batch::unmap_row(cpi, chosen_relation(relation), batch_row);
     match answer {
-        CycleRowAnswer::At { cycle, row } => { if part == 0 { row as u64 } else { cycle as u64 } }
+        CycleRowAnswer::At { cycle, row } => one_of(part, row as u64, cycle as u64),
         CycleRowAnswer::Refused(r) => refused_at(r),
     }
 }
@@ -166,10 +172,7 @@ fn coefficient_number(k: Coefficient) -> u64
 fn mark_number(relation: Relation) -> u64
     ensures { λ n. ⌜ n ≡ markNumber relation ⌝ }
 {
-    match relation {
-        Relation::Bin => 3,
-        Relation::Fld => 4,
-    }
+    by_relation(relation, 3, 4)
 }
 
 fn batch_number(w: BatchWord) -> u64

@@ -89,7 +89,8 @@ pub extern "C" fn compare_witness_row(
     public: &[u64],
     row: &mut [u64],
 ) -> u64
-    ensures { λ r. ⌜ reply r (now (row .exit)) ≡ rowReply (now (cycle .entry)) (now (rom .entry)) (now (public .entry)) (now (row .entry)) ⌝ }
+    ensures { λ r.
+        ⌜ reply r (now (row .exit)) ≡ rowReply (now (cycle .entry)) (now (rom .entry)) (now (public .entry)) (now (row .entry)) ⌝ }
 {
     if cycle.len() < 30 {
         return 0x8000000000000000;
@@ -107,7 +108,8 @@ pub extern "C" fn compare_assemble(
     public: &[u64],
     batch: &mut [u64],
 ) -> u64
-    ensures { λ r. ⌜ reply r (now (batch .exit)) ≡ fillReply (assemblyCalled cpi (now (cycles .entry)) (now (public .entry)) (now (batch .entry))) ⌝ }
+    ensures { λ r.
+        ⌜ reply r (now (batch .exit)) ≡ fillReply (assemblyCalled cpi (now (cycles .entry)) (now (public .entry)) (now (batch .entry))) ⌝ }
 {
     asked_number(witness::assembly::assemble_instance_z(cpi, cycles, public, batch))
 }

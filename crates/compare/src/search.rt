@@ -1,13 +1,13 @@
 // The search for a row in any words, and the words of a part, one at a time.
 ghost use mathlib.Core.Path.{_≡_};
 ghost use Rattle.circuit.specs.Found.{found, partOf};
-ghost use Rattle.circuit.specs.Reader.{rowRead};
-ghost use Rattle.compare.specs.Numbers.{entryOf, chosenRelation, chosenPlace, foundNumber};
+ghost use Rattle.compare.specs.Numbers.{entryOf, chosenRelation, chosenPlace, foundNumber, sought};
 use crate::check::chosen_relation;
+use crate::one_of;
 use crate::reader::end_number;
 use crate::reader::start_number;
+use circuit::Relation;
 use circuit::search::Found;
-use layout::Refusal;
 
 // Word i, 2^63 past the end.
 pub fn word_at(words: &[u32], i: usize) -> u64
@@ -23,31 +23,30 @@ pub fn word_at(words: &[u32], i: usize) -> u64
 fn found_number(place: Found, part: u32) -> u64
     ensures { λ n. ⌜ n ≡ foundNumber part place ⌝ }
 {
-    if part == 0 {
-        start_number(place)
-    } else {
-        end_number(place)
+    one_of(part, start_number(place), end_number(place))
+}
+
+// For `opened` 0 in any words, else in words that are opened first.
+fn seek(opened: u32, listing: &[u32], relation: Relation, row: usize) -> Found
+    ensures { λ r. ⌜ r ≡ sought opened (now (listing .entry)) relation row ⌝ }
+{
+    if opened == 0 {
+        return circuit::search::find_row(listing, relation, row);
     }
+    circuit::reader::read_row(listing, relation, row)
 }
 
 #[no_mangle]
-pub extern "C" fn compare_find_row(listing: &[u32], relation: u32, row: usize, part: u32) -> u64
-    ensures { λ r. ⌜ r ≡ foundNumber part (found (now (listing .entry)) (chosenRelation relation) row) ⌝ }
+pub extern "C" fn compare_find_row(
+    opened: u32,
+    listing: &[u32],
+    relation: u32,
+    row: usize,
+    part: u32,
+) -> u64
+    ensures { λ r. ⌜ r ≡ foundNumber part (sought opened (now (listing .entry)) (chosenRelation relation) row) ⌝ }
 {
-    found_number(
-        circuit::search::find_row(listing, chosen_relation(relation), row),
-        part,
-    )
-}
-
-#[no_mangle]
-pub extern "C" fn compare_read_row(listing: &[u32], relation: u32, row: usize, part: u32) -> u64
-    ensures { λ r. ⌜ r ≡ foundNumber part (rowRead (now (listing .entry)) (chosenRelation relation) row) ⌝ }
-{
-    found_number(
-        circuit::reader::read_row(listing, chosen_relation(relation), row),
-        part,
-    )
+    found_number(seek(opened, listing, chosen_relation(relation), row), part)
 }
 
 #[no_mangle]
@@ -66,10 +65,7 @@ fn chosen_place(refused: u32, start: usize, end: usize) -> Found
     if refused == 0 {
         Found::At { start, end }
     } else {
-        Found::Refused(Refusal {
-            number: 13,
-            place: 0,
-        })
+        Found::Refused(layout::refused(13))
     }
 }
 

@@ -1,8 +1,7 @@
-// What a word of a listing stands for.
+// What a word of a listing stands for, and what it says by itself.
 ghost use mathlib.Core.Path.{_≡_};
 ghost use Prim.Native.Nat.{_<_, _^_};
-ghost use Rattle.circuit.specs.Words.{wordOf, relationOf, coefficientOf, cleanOf};
-ghost use Rattle.compare.specs.Numbers.{coefficientNumber, markNumber, wordNumber, yesNumber};
+ghost use Rattle.compare.specs.Numbers.{wordNumber, wordPart};
 use crate::batch_number;
 use crate::coefficient_number;
 use crate::mark_number;
@@ -28,29 +27,13 @@ fn word_number(w: Word) -> u64
 }
 
 #[no_mangle]
-pub extern "C" fn compare_read_word(word: u32) -> u64
-    ensures { λ r. ⌜ r ≡ wordNumber (wordOf word) ⌝ }
+pub extern "C" fn compare_read_word(word: u32, part: u32) -> u64
+    ensures { λ r. ⌜ r ≡ wordPart part word ⌝ }
 {
-    word_number(circuit::words::read_word(word))
-}
-
-#[no_mangle]
-pub extern "C" fn compare_relation_of(word: u32) -> u64
-    ensures { λ r. ⌜ r ≡ markNumber (relationOf word) ⌝ }
-{
-    mark_number(circuit::words::relation_of(word))
-}
-
-#[no_mangle]
-pub extern "C" fn compare_coefficient_of(word: u32) -> u64
-    ensures { λ r. ⌜ r ≡ coefficientNumber (coefficientOf word) ⌝ }
-{
-    coefficient_number(circuit::words::coefficient_of(word))
-}
-
-#[no_mangle]
-pub extern "C" fn compare_is_clean(word: u32) -> u64
-    ensures { λ r. ⌜ r ≡ yesNumber (cleanOf word) ⌝ }
-{
-    if circuit::words::is_clean(word) { 1 } else { 0 }
+    match part {
+        0 => word_number(circuit::words::read_word(word)),
+        1 => mark_number(circuit::words::relation_of(word)),
+        2 => coefficient_number(circuit::words::coefficient_of(word)),
+        _ => { if circuit::words::is_clean(word) { 1 } else { 0 } }
+    }
 }

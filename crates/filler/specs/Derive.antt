@@ -8,7 +8,7 @@ use lib.Bits.{bitXor, bitAnd}
 use Rattle.base.specs.Bits.{digit, _⊻_, signedLess, bitAt}
 use Rattle.base.specs.Fields.{Field, field, flags, pack}
 use Rattle.layout.specs.Columns.{OPSYS, OPBR, EQF, CEQ, CLT, CLU}
-use Rattle.filler.specs.declared.derive.Flags.{Flags}
+use Rattle.filler.specs.declared.bits.Flags.{Flags}
 use Rattle.filler.specs.declared.derive.TopBits.{TopBits}
 use Rattle.filler.specs.Lanes.{hot, pair, next}
 

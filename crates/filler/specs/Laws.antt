@@ -13,6 +13,7 @@
 --     MetEach           each test is true exactly when the condition of its number holds
 --     MetFirst          all tests are true exactly when the ten conditions hold; the answer names the first that does not
 --     MetRead           what the code reads of a cycle is what the conditions are about: the fields of two words of its columns
+--     Promise           what the filler promises to the crates above it, of every batch and cycle, and of its words bit by bit
 --     Rows              a cycle whose derived columns are as the words say meets the determining rows
 pub mod AdderRows
 pub mod Blocks
@@ -28,4 +29,5 @@ pub mod Loops
 pub mod MetEach
 pub mod MetFirst
 pub mod MetRead
+pub mod Promise
 pub mod Rows

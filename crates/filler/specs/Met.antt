@@ -16,10 +16,13 @@ use Rattle.layout.specs.Questions.{no, ifYes}
 use Rattle.verdict.specs.Row.{cycleOf, bitsOf}
 use Rattle.step.specs.Step.{opcode, offset}
 use Rattle.step.specs.Fill.{fillAsked}
+use Rattle.filler.specs.declared.bits.Flags.{Flags}
+use Rattle.filler.specs.declared.derive.GivenWords.{GivenWords}
 use Rattle.filler.specs.declared.conditions.StepAnswer.{StepAnswer}
 use Rattle.filler.specs.declared.conditions.StepAnswer.the-variants.{Meets, Unmet, Refused}
 use Rattle.filler.specs.declared.conditions.StepWords.{StepWords}
 use Rattle.filler.specs.declared.conditions.StepFlags.{StepFlags}
+use Rattle.filler.specs.Words.{gateFlags}
 
 -- ---- what the conditions read of a cycle
 
@@ -36,35 +39,44 @@ wordsOf b =
       opcode = opcode b;
     }
 
+abbrev pub flagsAt : (ℕ → Bool) → Flags
+flagsAt b = record { write = b WE; load = b IS-LOAD; byte = b LD-BYTE; half = b LD-HALF; whole = b LD-WORD }
+
 abbrev pub flagsOf : (ℕ → Bool) → StepFlags
 flagsOf b =
     record {
+      gates = flagsAt b;
       sub = b SUB;
-      we = b WE;
-      «is_load» = b IS-LOAD;
       «is_store» = b IS-STORE;
       «is_arith» = b IS-ARITH;
       «is_shift» = b IS-SHIFT;
-      «ld_byte» = b LD-BYTE;
-      «ld_half» = b LD-HALF;
-      «ld_word» = b LD-WORD;
       off = offset b;
       «ram_addr» = word b RAM-ADDR 8;
     }
 
--- the same of the word of columns 768 on, where the code finds them
+-- the same words from those that the derived columns depend on and two more, and the flags of the word of columns 768 on: where the code
+-- finds them
+abbrev pub stepWords : GivenWords → ℕ → ℕ → StepWords
+stepWords g rd shift =
+    record {
+      rs1 = g .rs1;
+      rd = rd;
+      «load_val» = g .load;
+      «shift_out» = shift;
+      t1 = g .t1;
+      t2 = g .t2;
+      alu = g .alu;
+      opcode = g .fetch % 2 ^ 7;
+    }
+
 abbrev pub flagsIn : ℕ → StepFlags
 flagsIn w =
     record {
+      gates = gateFlags w;
       sub = bitAt w (SUB - FLAGS);
-      we = bitAt w (WE - FLAGS);
-      «is_load» = bitAt w (IS-LOAD - FLAGS);
       «is_store» = bitAt w (IS-STORE - FLAGS);
       «is_arith» = bitAt w (IS-ARITH - FLAGS);
       «is_shift» = bitAt w (IS-SHIFT - FLAGS);
-      «ld_byte» = bitAt w (LD-BYTE - FLAGS);
-      «ld_half» = bitAt w (LD-HALF - FLAGS);
-      «ld_word» = bitAt w (LD-WORD - FLAGS);
       off = w / 2 ^ (OFF - FLAGS) % 2 ^ 3;
       «ram_addr» = w / 2 ^ (RAM-ADDR - FLAGS) % 2 ^ 8;
     }
@@ -87,27 +99,27 @@ module _ (w : StepWords) (f : StepFlags) where
   shift = f .«is_shift» ⇒ eqb (w .alu) (w .«shift_out»)
 
   abbrev pub write : Bool
-  write = f .we && not (f .«is_load») ⇒ eqb (w .rd) (w .alu)
+  write = f .gates .write && not (f .gates .load) ⇒ eqb (w .rd) (w .alu)
 
   abbrev pub loadWord : Bool
-  loadWord = f .«ld_word» ⇒ eqb (w .rd) (w .«load_val»)
+  loadWord = f .gates .whole ⇒ eqb (w .rd) (w .«load_val»)
 
   abbrev pub loadByte : Bool
-  loadByte = f .«ld_byte» ⇒ eqb (byteOf (w .rd) 0) (byteOf (w .«load_val») (f .off))
+  loadByte = f .gates .byte ⇒ eqb (byteOf (w .rd) 0) (byteOf (w .«load_val») (f .off))
 
   abbrev pub loadHalf : Bool
   loadHalf =
-      f .«ld_half»
+      f .gates .half
       ⇒ eqb (byteOf (w .rd) 0) (byteOf (w .«load_val») (f .off)) && eqb (byteOf (w .rd) 1) (byteOf (w .«load_val») ((f .off + 1) % 8))
 
   abbrev pub upperZero : Bool
-  upperZero = f .«is_load» && not (f .«ld_word») ⇒ eqb (w .rd / 2 ^ 16) 0
+  upperZero = f .gates .load && not (f .gates .whole) ⇒ eqb (w .rd / 2 ^ 16) 0
 
   abbrev pub secondZero : Bool
-  secondZero = f .«is_load» && not (f .«ld_word») && not (f .«ld_half») ⇒ eqb (byteOf (w .rd) 1) 0
+  secondZero = f .gates .load && not (f .gates .whole) && not (f .gates .half) ⇒ eqb (byteOf (w .rd) 1) 0
 
   abbrev pub address : Bool
-  address = (f .«is_load» ⊻ f .«is_store») ⇒ eqb (f .«ram_addr») (w .alu / 2 ^ 3 % 2 ^ 8)
+  address = (f .gates .load ⊻ f .«is_store») ⇒ eqb (f .«ram_addr») (w .alu / 2 ^ 3 % 2 ^ 8)
 
 abbrev pub system : StepWords → Gf128 → Bool
 system w output = eqb (w .opcode) 0x73 ⇒ eqb (w .rd) (w .rs1) && same output (ofWords (w .rd) 0)

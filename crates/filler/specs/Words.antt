@@ -6,7 +6,7 @@ use Rattle.base.specs.Bits.{digit, word, bitAt}
 use Rattle.base.specs.Blocks.{Block, block}
 use Rattle.layout.specs.Columns.{OP-BITS, FUNCT3-BITS, RS1, RS2, LOAD-VAL, T1, T2, CARRY-OFF, ALU, SHIFT-SRC, STORE-OLD, STORE-SRC, FLAGS, OFF, SUB, WE, IS-LOAD, LD-BYTE, LD-HALF, LD-WORD, HALT, TAKEN, FETCH, FETCH-FUNCT3, EQA, ZERO, OPSYS}
 use Rattle.verdict.specs.Row.{bitsOf}
-use Rattle.filler.specs.declared.derive.Flags.{Flags}
+use Rattle.filler.specs.declared.bits.Flags.{Flags}
 use Rattle.filler.specs.declared.derive.TopBits.{TopBits}
 use Rattle.filler.specs.declared.derive.GivenWords.{GivenWords}
 use Rattle.filler.specs.declared.derive.DerivedWords.{DerivedWords}

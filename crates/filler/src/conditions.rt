@@ -1,41 +1,32 @@
 // Which of the ten step conditions is the first that a cycle does not meet (document 01, "Step conditions").
+use crate::bits::Flags;
 use crate::bits::IS_ARITH_BIT;
-use crate::bits::IS_LOAD_BIT;
 use crate::bits::IS_SHIFT_BIT;
 use crate::bits::IS_STORE_BIT;
-use crate::bits::LD_BYTE_BIT;
-use crate::bits::LD_HALF_BIT;
-use crate::bits::LD_WORD_BIT;
 use crate::bits::OFF_BIT;
 use crate::bits::RAM_ADDR_BIT;
 use crate::bits::SUB_BIT;
-use crate::bits::WE_BIT;
+use crate::bits::flags_of;
 use crate::bits::nth;
 use crate::bits::xor;
+use crate::derive::GivenWords;
 use crate::derive::word_of;
 use crate::fill::ask;
 use crate::words::element;
+use crate::words::read_given;
 use crate::words::read_word;
 use field::Gf128;
 use layout::Asked;
 use layout::Refusal;
-use layout::columns::ALU;
-use layout::columns::FETCH;
-use layout::columns::FLAGS;
-use layout::columns::LOAD_VAL;
-use layout::columns::OFF;
 use layout::columns::ONE_COL;
 use layout::columns::RD;
-use layout::columns::RS1;
 use layout::columns::SHIFT_OUT;
-use layout::columns::T1;
-use layout::columns::T2;
 ghost use mathlib.Core.Path.{_≡_};
 ghost use Prim.Native.Nat.{_+_, _<_};
 ghost use Rattle.layout.specs.Columns.{ONE-COL};
 ghost use Rattle.verdict.specs.Row.{cycleOf, bitsOf};
 ghost use Rattle.verdict.specs.Promises.{Cycle};
-ghost use Rattle.filler.specs.Met.{byteOf, arithmetic, shift, write, system, loadWord, loadByte, loadHalf, upperZero, secondZero, address, conditions, allTrue, firstFalse, firstUnmet, wordsOf, flagsIn, stepAnswer};
+ghost use Rattle.filler.specs.Met.{byteOf, arithmetic, shift, write, system, loadWord, loadByte, loadHalf, upperZero, secondZero, address, conditions, allTrue, firstFalse, firstUnmet, stepWords, flagsIn, stepAnswer};
 
 // Every condition is met, or the number of the first that is not.
 pub enum StepAnswer {
@@ -56,17 +47,14 @@ pub struct StepWords {
     pub opcode: u64,
 }
 
-// The flags by their columns' names, and what stands behind them: OFF of three bits and the RAM address of eight.
+// The flags that gates are made of, the others by their columns' names, and what stands behind them: OFF of three bits and the RAM
+// address of eight.
 struct StepFlags {
+    gates: Flags,
     sub: bool,
-    we: bool,
-    is_load: bool,
     is_store: bool,
     is_arith: bool,
     is_shift: bool,
-    ld_byte: bool,
-    ld_half: bool,
-    ld_word: bool,
     off: u64,
     ram_addr: u64,
 }
@@ -94,7 +82,7 @@ fn shift(w: StepWords, f: StepFlags) -> bool
 fn write(w: StepWords, f: StepFlags) -> bool
     ensures { λ r. ⌜ r ≡ write w f ⌝ }
 {
-    !(f.we & !f.is_load) | (w.rd == w.alu)
+    !(f.gates.write & !f.gates.load) | (w.rd == w.alu)
 }
 
 fn system(w: StepWords, output: Gf128) -> bool
@@ -106,13 +94,13 @@ fn system(w: StepWords, output: Gf128) -> bool
 fn load_word(w: StepWords, f: StepFlags) -> bool
     ensures { λ r. ⌜ r ≡ loadWord w f ⌝ }
 {
-    !f.ld_word | (w.rd == w.load_val)
+    !f.gates.whole | (w.rd == w.load_val)
 }
 
 fn load_byte(w: StepWords, f: StepFlags) -> bool
     ensures { λ r. ⌜ r ≡ loadByte w f ⌝ }
 {
-    !f.ld_byte | (byte_of(w.rd, 0) == byte_of(w.load_val, f.off))
+    !f.gates.byte | (byte_of(w.rd, 0) == byte_of(w.load_val, f.off))
 }
 
 fn load_half(w: StepWords, f: StepFlags) -> bool
@@ -121,26 +109,26 @@ fn load_half(w: StepWords, f: StepFlags) -> bool
 {
     let first = byte_of(w.rd, 0) == byte_of(w.load_val, f.off);
     let second = byte_of(w.rd, 1) == byte_of(w.load_val, (f.off + 1) % 8);
-    !f.ld_half | (first & second)
+    !f.gates.half | (first & second)
 }
 
 fn upper_zero(w: StepWords, f: StepFlags) -> bool
     ensures { λ r. ⌜ r ≡ upperZero w f ⌝ }
 {
-    !(f.is_load & !f.ld_word) | (w.rd >> 16 == 0)
+    !(f.gates.load & !f.gates.whole) | (w.rd >> 16 == 0)
 }
 
 fn second_zero(w: StepWords, f: StepFlags) -> bool
     ensures { λ r. ⌜ r ≡ secondZero w f ⌝ }
 {
-    !(f.is_load & !f.ld_word & !f.ld_half) | (byte_of(w.rd, 1) == 0)
+    !(f.gates.load & !f.gates.whole & !f.gates.half) | (byte_of(w.rd, 1) == 0)
 }
 
 // Just one of load and store: both set cancel.
 fn address(w: StepWords, f: StepFlags) -> bool
     ensures { λ r. ⌜ r ≡ address w f ⌝ }
 {
-    !xor(f.is_load, f.is_store) | (f.ram_addr == (w.alu >> 3) % 256)
+    !xor(f.gates.load, f.is_store) | (f.ram_addr == (w.alu >> 3) % 256)
 }
 
 // The ten, in document 01's order.
@@ -175,19 +163,19 @@ fn first_false(met: [bool; 10]) -> StepAnswer
     StepAnswer::Meets
 }
 
-fn read_words(batch: &[u64], cpi: usize, cycle: usize) -> StepWords
-    requires { ⌜ Cycle cpi cycle (now batch) ⌝ }
-    ensures { λ r. ⌜ r ≡ wordsOf (bitsOf cpi (now (batch .entry)) cycle) ⌝ }
+// From the words that the derived columns depend on, and two that they do not.
+pub fn step_words(g: GivenWords, rd: u64, shift: u64) -> StepWords
+    ensures { λ r. ⌜ r ≡ stepWords g rd shift ⌝ }
 {
     StepWords {
-        rs1: read_word(batch, cpi, cycle, RS1),
-        rd: read_word(batch, cpi, cycle, RD),
-        load_val: read_word(batch, cpi, cycle, LOAD_VAL),
-        shift_out: read_word(batch, cpi, cycle, SHIFT_OUT),
-        t1: read_word(batch, cpi, cycle, T1),
-        t2: read_word(batch, cpi, cycle, T2),
-        alu: read_word(batch, cpi, cycle, ALU),
-        opcode: read_word(batch, cpi, cycle, FETCH) % 128,
+        rs1: g.rs1,
+        rd,
+        load_val: g.load,
+        shift_out: shift,
+        t1: g.t1,
+        t2: g.t2,
+        alu: g.alu,
+        opcode: g.fetch % 128,
     }
 }
 
@@ -196,15 +184,11 @@ fn flags_in(w: u64) -> StepFlags
     ensures { λ r. ⌜ r ≡ flagsIn w ⌝ }
 {
     StepFlags {
+        gates: flags_of(w),
         sub: nth(w, SUB_BIT),
-        we: nth(w, WE_BIT),
-        is_load: nth(w, IS_LOAD_BIT),
         is_store: nth(w, IS_STORE_BIT),
         is_arith: nth(w, IS_ARITH_BIT),
         is_shift: nth(w, IS_SHIFT_BIT),
-        ld_byte: nth(w, LD_BYTE_BIT),
-        ld_half: nth(w, LD_HALF_BIT),
-        ld_word: nth(w, LD_WORD_BIT),
         off: (w >> OFF_BIT) % 8,
         ram_addr: (w >> RAM_ADDR_BIT) % 256,
     }
@@ -224,8 +208,10 @@ fn unmet_in(batch: &[u64], cpi: usize, cycle: usize) -> StepAnswer
     requires { ⌜ Cycle cpi cycle (now batch) ⌝ }
     ensures { λ r. ⌜ r ≡ firstUnmet (bitsOf cpi (now (batch .entry)) cycle) (cycleOf cpi (now (batch .entry)) cycle (ONE-COL + 1)) ⌝ }
 {
-    let w = read_words(batch, cpi, cycle);
-    let f = flags_in(read_word(batch, cpi, cycle, FLAGS));
+    let g = read_given(batch, cpi, cycle);
+    let rd = read_word(batch, cpi, cycle, RD);
+    let w = step_words(g, rd, read_word(batch, cpi, cycle, SHIFT_OUT));
+    let f = flags_in(g.flags);
     first_false(conditions(w, f, element(batch, ONE_COL * cpi + 1)))
 }
 

@@ -1,19 +1,23 @@
 // The derived columns of a cycle, worked out by words. The row maker calls this, too.
+use crate::bits::BEQ;
+use crate::bits::BGE;
 use crate::bits::BGE_BIT;
+use crate::bits::BGEU;
 use crate::bits::BGEU_BIT;
+use crate::bits::BLT;
+use crate::bits::BLTU;
+use crate::bits::BNE;
 use crate::bits::BNE_BIT;
 use crate::bits::CEQ_BIT;
 use crate::bits::CLT_BIT;
 use crate::bits::CLU_BIT;
 use crate::bits::FUNCT3_BIT;
-use crate::bits::IS_LOAD_BIT;
-use crate::bits::LD_BYTE_BIT;
-use crate::bits::LD_HALF_BIT;
-use crate::bits::LD_WORD_BIT;
+use crate::bits::Flags;
 use crate::bits::OFF_BIT;
 use crate::bits::OPBR_BIT;
 use crate::bits::SUB_BIT;
-use crate::bits::WE_BIT;
+use crate::bits::TOP_BIT;
+use crate::bits::flags_of;
 use crate::bits::nth;
 use crate::bits::xor;
 use layout::columns::OPSYS;
@@ -25,7 +29,7 @@ ghost use Rattle.base.specs.Bits.{digit, _⊻_, bitAt};
 ghost use Rattle.base.specs.Fields.{pack, flags};
 ghost use Rattle.filler.specs.Lanes.{hot, pair};
 ghost use Rattle.filler.specs.Derive.{carryWord, runWord, gateBits, compareWord, opcodeRun, takenBit};
-ghost use Rattle.filler.specs.Words.{gateFlags, topBitsOf, lanesOf, branchesOf, derivedWords};
+ghost use Rattle.filler.specs.Words.{topBitsOf, lanesOf, branchesOf, derivedWords};
 
 // The words of a cycle that its derived columns depend on; `flags` has columns 768 to 831.
 pub struct GivenWords {
@@ -45,15 +49,6 @@ pub struct DerivedWords {
     pub lanes: u64,
     pub zeros: u64,
     pub branches: u64,
-}
-
-// The flags that gates are made of: write the destination, load, and how much a load takes.
-struct Flags {
-    write: bool,
-    load: bool,
-    byte: bool,
-    half: bool,
-    whole: bool,
 }
 
 // Bit 63 of each word that the comparisons read.
@@ -110,18 +105,6 @@ fn gate(b: bool, w: u64) -> u64
     ensures { λ r. ⌜ (r ≡ digit b * w) × (r < 256) ⌝ }
 {
     if b { w } else { 0 }
-}
-
-fn flags_of(w: u64) -> Flags
-    ensures { λ r. ⌜ r ≡ gateFlags w ⌝ }
-{
-    Flags {
-        write: nth(w, WE_BIT),
-        load: nth(w, IS_LOAD_BIT),
-        byte: nth(w, LD_BYTE_BIT),
-        half: nth(w, LD_HALF_BIT),
-        whole: nth(w, LD_WORD_BIT),
-    }
 }
 
 // NH and WNL.
@@ -192,9 +175,9 @@ fn compare_word(e: u64, t: TopBits, f: Flags) -> u64
     let ltsb = xor(signs, true) & t.alu;
     let ltua = t.t1 & t.t2;
     let ltub = t.carry & xor(t.t1, t.t2);
-    let ceq = picked(e, 0, 1, t.zero);
-    let clt = picked(e, 4, 5, xor(ltsa, ltsb));
-    let clu = picked(e, 6, 7, xor(xor(ltua, ltub), true));
+    let ceq = picked(e, BEQ, BNE, t.zero);
+    let clt = picked(e, BLT, BGE, xor(ltsa, ltsb));
+    let clu = picked(e, BLTU, BGEU, xor(xor(ltua, ltub), true));
     word_of_nine(
         ltsa,
         ltsb,
@@ -212,13 +195,13 @@ fn top_bits_of(g: GivenWords, carry: u64, zeros: u64) -> TopBits
     ensures { λ r. ⌜ r ≡ topBitsOf g carry zeros ⌝ }
 {
     TopBits {
-        rs1: nth(g.rs1, 63),
-        rs2: nth(g.rs2, 63),
-        alu: nth(g.alu, 63),
-        t1: nth(g.t1, 63),
-        t2: nth(g.t2, 63),
-        carry: nth(carry, 63),
-        zero: nth(zeros, 63),
+        rs1: nth(g.rs1, TOP_BIT),
+        rs2: nth(g.rs2, TOP_BIT),
+        alu: nth(g.alu, TOP_BIT),
+        t1: nth(g.t1, TOP_BIT),
+        t2: nth(g.t2, TOP_BIT),
+        carry: nth(carry, TOP_BIT),
+        zero: nth(zeros, TOP_BIT),
     }
 }
 

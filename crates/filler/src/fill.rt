@@ -5,25 +5,17 @@ use crate::derive::derive;
 use crate::derive::taken_bit;
 use crate::words::element;
 use crate::words::put_word;
-use crate::words::read_word;
+use crate::words::read_given;
 use field::Gf128;
 use layout::Asked;
 use layout::Refusal;
-use layout::columns::ALU;
 use layout::columns::CARRY_OFF;
 use layout::columns::EQA;
-use layout::columns::FETCH;
-use layout::columns::FLAGS;
 use layout::columns::HALT;
-use layout::columns::LOAD_VAL;
 use layout::columns::OPSYS;
-use layout::columns::RS1;
-use layout::columns::RS2;
 use layout::columns::SHIFT_SRC;
 use layout::columns::STORE_OLD;
 use layout::columns::STORE_SRC;
-use layout::columns::T1;
-use layout::columns::T2;
 use layout::columns::TAKEN;
 use layout::columns::ZERO;
 ghost use mathlib.Core.Path.{_≡_};
@@ -36,7 +28,7 @@ ghost use Rattle.step.specs.Filling.{filled};
 ghost use Rattle.step.specs.Fill.{faulty, firstFaulty, columnsAsked, fillAsked, called, Passed};
 ghost use Rattle.layout.specs.Questions.{Called};
 ghost use Rattle.filler.specs.Blocks.{putBlocks};
-ghost use Rattle.filler.specs.Words.{givenWords, lowBlocks, flagBlocks, highBlocks, fillCycle};
+ghost use Rattle.filler.specs.Words.{lowBlocks, flagBlocks, highBlocks, fillCycle};
 
 fn is_derived(column: usize) -> bool
     ensures { λ r. ⌜ r ≡ derived column ⌝ }
@@ -98,22 +90,6 @@ pub fn ask(cpi: usize, batch: &[u64]) -> Asked
     match layout::ask_batch(cpi, batch.len()) {
         Asked::No(r) => Asked::No(r),
         Asked::Yes => ask_columns(cpi, batch),
-    }
-}
-
-fn read_given(batch: &[u64], cpi: usize, cycle: usize) -> GivenWords
-    requires { ⌜ Cycle cpi cycle (now batch) ⌝ }
-    ensures { λ r. ⌜ r ≡ givenWords cpi (now (batch .entry)) cycle ⌝ }
-{
-    GivenWords {
-        rs1: read_word(batch, cpi, cycle, RS1),
-        rs2: read_word(batch, cpi, cycle, RS2),
-        load: read_word(batch, cpi, cycle, LOAD_VAL),
-        t1: read_word(batch, cpi, cycle, T1),
-        t2: read_word(batch, cpi, cycle, T2),
-        alu: read_word(batch, cpi, cycle, ALU),
-        flags: read_word(batch, cpi, cycle, FLAGS),
-        fetch: read_word(batch, cpi, cycle, FETCH),
     }
 }
 

@@ -1,5 +1,14 @@
 // A cycle's columns read as words, low bit first, and words put into columns.
+use crate::derive::GivenWords;
 use field::Gf128;
+use layout::columns::ALU;
+use layout::columns::FETCH;
+use layout::columns::FLAGS;
+use layout::columns::LOAD_VAL;
+use layout::columns::RS1;
+use layout::columns::RS2;
+use layout::columns::T1;
+use layout::columns::T2;
 ghost use mathlib.Core.Path.{_≡_};
 ghost use Prim.Native.Nat.{_+_, _*_, _<_, _≤_};
 ghost use lib.ListN.{length};
@@ -8,7 +17,7 @@ ghost use Rattle.verdict.specs.Row.{elementAt, bitsOf};
 ghost use Rattle.verdict.specs.Promises.{Cycle};
 ghost use Rattle.step.specs.Filling.{put};
 ghost use Rattle.filler.specs.Blocks.{putWord};
-ghost use Rattle.filler.specs.Words.{wordAt};
+ghost use Rattle.filler.specs.Words.{wordAt, givenWords};
 
 // An element of a batch, by its batch column.
 pub fn element(batch: &[u64], at: usize) -> Gf128
@@ -46,6 +55,23 @@ pub fn read_word(batch: &[u64], cpi: usize, cycle: usize, column: usize) -> u64
         w = bit_at(batch, cpi, cycle, column + i) + 2 * w;
     }
     w
+}
+
+// The words that the derived columns depend on.
+pub fn read_given(batch: &[u64], cpi: usize, cycle: usize) -> GivenWords
+    requires { ⌜ Cycle cpi cycle (now batch) ⌝ }
+    ensures { λ r. ⌜ r ≡ givenWords cpi (now (batch .entry)) cycle ⌝ }
+{
+    GivenWords {
+        rs1: read_word(batch, cpi, cycle, RS1),
+        rs2: read_word(batch, cpi, cycle, RS2),
+        load: read_word(batch, cpi, cycle, LOAD_VAL),
+        t1: read_word(batch, cpi, cycle, T1),
+        t2: read_word(batch, cpi, cycle, T2),
+        alu: read_word(batch, cpi, cycle, ALU),
+        flags: read_word(batch, cpi, cycle, FLAGS),
+        fetch: read_word(batch, cpi, cycle, FETCH),
+    }
 }
 
 // The lowest bit of w, whatever stood there: the high word becomes 0, too.

@@ -9,27 +9,12 @@ use lib.ListN.{getD}
 use Rattle.base.specs.Blocks.{Block}
 use Rattle.field.specs.declared.Gf128.{Gf128}
 use Rattle.filler.specs.declared.derive.GivenWords.{GivenWords}
-use Rattle.filler.specs.declared.conditions.StepWords.{StepWords}
 use Rattle.filler.specs.Words.{derivedWords, blocks}
-use Rattle.filler.specs.Met.{flagsIn, conditions, allTrue}
+use Rattle.filler.specs.Met.{stepWords, flagsIn, conditions, allTrue}
 
 -- the words of a list from a place on
 abbrev pub wordsFrom : List ℕ → ℕ → ℕ → ℕ
 wordsFrom list at k = getD list (at + k) 0
-
--- what the conditions read; the opcode is FETCH bits 0 to 6
-abbrev pub stepIn : (ℕ → ℕ) → StepWords
-stepIn ws =
-    record {
-      rs1 = ws 0;
-      rd = ws 2;
-      «load_val» = ws 3;
-      «shift_out» = ws 4;
-      t1 = ws 5;
-      t2 = ws 6;
-      alu = ws 8;
-      opcode = ws 13 % 2 ^ 7;
-    }
 
 -- what the derived columns depend on
 abbrev pub givenIn : (ℕ → ℕ) → GivenWords
@@ -48,10 +33,11 @@ abbrev pub allWrittenIn : (ℕ → ℕ) → List Block → Bool
 allWrittenIn ws [] = true
 allWrittenIn ws (k ∷ ks) = isWrittenIn ws k && allWrittenIn ws ks
 
--- of a cycle's words, and of the public element one_col + 1
+-- of a cycle's words, and of the public element one_col + 1; the conditions read RD and SHIFT_OUT too
 unfoldable pub judgedWords : (ℕ → ℕ) → Gf128 → Bool
 judgedWords ws output =
-    allTrue (conditions (stepIn ws) (flagsIn (ws 12)) output) && allWrittenIn ws (blocks (givenIn ws) (derivedWords (givenIn ws)))
+    allTrue (conditions (stepWords (givenIn ws) (ws 2) (ws 4)) (flagsIn (ws 12)) output)
+    && allWrittenIn ws (blocks (givenIn ws) (derivedWords (givenIn ws)))
 
 -- of cycles d, d + 1 .. d + n - 1, 32 words each
 unfoldable pub allJudged : List ℕ → Gf128 → ℕ → ℕ → Bool

@@ -1,7 +1,7 @@
 // A cycle judged from its packed words: word k has columns 64 k to 64 k + 63. The tests have no branch between them.
 use field::Gf128;
-use filler::conditions::StepWords;
 use filler::conditions::meets_all;
+use filler::conditions::step_words;
 use filler::derive::DerivedWords;
 use filler::derive::GivenWords;
 use filler::derive::derive;
@@ -10,7 +10,7 @@ ghost use mathlib.Core.Path.{_≡_};
 ghost use Prim.Native.Nat.{_+_, _*_, _<_, _≤_};
 ghost use lib.ListN.{length};
 ghost use Rattle.filler.specs.Words.{lowBlocks, flagBlocks, highBlocks, blocks};
-ghost use Rattle.judge.specs.Words.{wordsFrom, stepIn, givenIn, sameBits, allWrittenIn, judgedWords, allJudged};
+ghost use Rattle.judge.specs.Words.{wordsFrom, givenIn, sameBits, allWrittenIn, judgedWords, allJudged};
 
 // All 64 bits.
 fn same_word(w: u64, v: u64) -> bool
@@ -87,23 +87,6 @@ fn derived_written(words: &[u64], at: usize, g: GivenWords, d: DerivedWords) -> 
     low_written(words, at, g, d) & (flags_written(words, at, d) & high_written(words, at, d))
 }
 
-// What the conditions read.
-fn read_step(words: &[u64], at: usize) -> StepWords
-    requires { ⌜ at + 32 ≤ length (now words) ⌝ }
-    ensures { λ r. ⌜ r ≡ stepIn (wordsFrom (now (words .entry)) at) ⌝ }
-{
-    StepWords {
-        rs1: word_at(words, at, 0),
-        rd: word_at(words, at, 2),
-        load_val: word_at(words, at, 3),
-        shift_out: word_at(words, at, 4),
-        t1: word_at(words, at, 5),
-        t2: word_at(words, at, 6),
-        alu: word_at(words, at, 8),
-        opcode: word_at(words, at, 13) % 128,
-    }
-}
-
 // What the derived columns depend on.
 fn read_given(words: &[u64], at: usize) -> GivenWords
     requires { ⌜ at + 32 ≤ length (now words) ⌝ }
@@ -126,8 +109,10 @@ pub fn judge_cycle(words: &[u64], at: usize, output: Gf128) -> bool
     requires { ⌜ at + 32 ≤ length (now words) ⌝ }
     ensures { λ r. ⌜ r ≡ judgedWords (wordsFrom (now (words .entry)) at) output ⌝ }
 {
-    let met = meets_all(read_step(words, at), word_at(words, at, 12), output);
     let g = read_given(words, at);
+    let rd = word_at(words, at, 2);
+    let w = step_words(g, rd, word_at(words, at, 4));
+    let met = meets_all(w, g.flags, output);
     met & derived_written(words, at, g, derive(g))
 }
 

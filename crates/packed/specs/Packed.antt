@@ -9,6 +9,8 @@ use lib.ListN.{length, getD}
 use Rattle.base.specs.Lists.{from}
 use Rattle.field.specs.Gf.{isBit}
 use Rattle.layout.specs.declared.Refusal.{Refusal}
+use Rattle.layout.specs.declared.Asked.{Asked}
+use Rattle.layout.specs.declared.Asked.the-variants.{Yes, No}
 use Rattle.layout.specs.Batch.{batchAsked}
 use Rattle.layout.specs.Questions.{no, ifYes}
 use Rattle.verdict.specs.Row.{elementAt}
@@ -48,7 +50,11 @@ bitsFrom batch x (suc n) = isBit (elementAt batch x) && bitsFrom batch (suc x) n
 unfoldable pub namedBits : ℕ → List ℕ → Bool
 namedBits cpi batch = bitsFrom batch 0 (960 * cpi) && bitsFrom batch (1024 * cpi) (128 * cpi)
 
--- the call: the answer, and the packed slice afterwards. Questions 1, 2 and 18
+-- questions 1, 2 and 18: a batch of so many words, and room for so many
+unfoldable pub packAsked : ℕ → ℕ → ℕ → Asked
+packAsked cpi words room = ifYes No (batchAsked cpi words) (cond (eqb room (32 * cpi)) Yes (No (no 18 0)))
+
+-- the call: the answer, and the packed slice afterwards
 pub record PackCalled : Type 0 where
   pub answer : Packing
   pub out : List ℕ
@@ -61,6 +67,5 @@ unpacked out r = record { answer = Refused r; out = out }
 
 unfoldable pub packCalled : ℕ → List ℕ → List ℕ → PackCalled
 packCalled cpi batch out =
-    ifYes (unpacked out) (batchAsked cpi (length batch))
-    (cond (eqb (length out) (32 * cpi)) (record { answer = answerOf (namedBits cpi batch); out = packedNamed cpi batch out })
-    (unpacked out (no 18 0)))
+    ifYes (unpacked out) (packAsked cpi (length batch) (length out))
+    (record { answer = answerOf (namedBits cpi batch); out = packedNamed cpi batch out })

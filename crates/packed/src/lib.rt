@@ -9,7 +9,7 @@ ghost use mathlib.Core.Path.{_≡_};
 ghost use Prim.Native.Nat.{_<_};
 ghost use lib.Dec.{eqb};
 ghost use lib.ListN.{length};
-ghost use Rattle.packed.specs.Packed.{answerOf, PackCalled, packCalled};
+ghost use Rattle.packed.specs.Packed.{answerOf, packAsked, PackCalled, packCalled};
 ghost use Rattle.packed.specs.Named.{Named, NamedIn};
 
 // Whether the columns that were packed are bits.
@@ -80,19 +80,29 @@ fn answer(bad: u64) -> Packing
     }
 }
 
+// Questions 1, 2 and 18.
+fn ask(cpi: usize, words: usize, room: usize) -> Asked
+    ensures { λ r. ⌜ r ≡ packAsked cpi words room ⌝ }
+{
+    match layout::ask_batch(cpi, words) {
+        Asked::No(r) => Asked::No(r),
+        Asked::Yes => {
+            if room != 32 * cpi {
+                return Asked::No(layout::refused(18));
+            }
+            Asked::Yes
+        }
+    }
+}
+
 // The words of every cycle that hold columns which rows name, in cycle order: questions 1, 2 and 18.
 pub fn pack_named(cpi: usize, batch: &[u64], out: &mut [u64]) -> Packing
     ensures { λ r.
         ⌜ _≡_ {A = PackCalled} (record { answer = r; out = now (out .exit) }) (packCalled cpi (now (batch .entry)) (now (out .entry))) ⌝ }
 {
-    match layout::ask_batch(cpi, batch.len()) {
+    match ask(cpi, batch.len(), out.len()) {
         Asked::No(r) => Packing::Refused(r),
-        Asked::Yes => {
-            if out.len() != 32 * cpi {
-                return Packing::Refused(layout::refused(18));
-            }
-            answer(pack(cpi, batch, out))
-        }
+        Asked::Yes => answer(pack(cpi, batch, out)),
     }
 }
 
@@ -101,13 +111,8 @@ pub fn pack_row(batch: &[u64], out: &mut [u64]) -> Packing
     ensures { λ r.
         ⌜ _≡_ {A = PackCalled} (record { answer = r; out = now (out .exit) }) (packCalled 1 (now (batch .entry)) (now (out .entry))) ⌝ }
 {
-    match layout::ask_batch(1, batch.len()) {
+    match ask(1, batch.len(), out.len()) {
         Asked::No(r) => Packing::Refused(r),
-        Asked::Yes => {
-            if out.len() != 32 {
-                return Packing::Refused(layout::refused(18));
-            }
-            answer(pack_one(batch, out))
-        }
+        Asked::Yes => answer(pack_one(batch, out)),
     }
 }

@@ -2,7 +2,7 @@
 use crate::words::has_part;
 use crate::words::part;
 use crate::words::same_words;
-use circuit::Relation;
+use compare::check::by_relation;
 use compare::check::compare_apply;
 use compare::check::compare_bit_test;
 use compare::fills::compare_first_unmet;
@@ -18,13 +18,6 @@ pub enum Reading {
     Rows,
 }
 
-fn relation_number(relation: Relation) -> u64 {
-    match relation {
-        Relation::Bin => 1,
-        Relation::Fld => 2,
-    }
-}
-
 fn verdict_is(v: Verdict, n: [u64; 8]) -> bool {
     match v {
         Verdict::Accepted { rows } => (n[1] == 0) & (rows as u64 == n[3]),
@@ -32,7 +25,7 @@ fn verdict_is(v: Verdict, n: [u64; 8]) -> bool {
             relation,
             row,
             rows,
-        } => (relation_number(relation) == n[1]) & (row as u64 == n[2]) & (rows as u64 == n[3]),
+        } => (by_relation(relation, 1, 2) == n[1]) & (row as u64 == n[2]) & (rows as u64 == n[3]),
     }
 }
 

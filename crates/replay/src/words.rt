@@ -84,17 +84,6 @@ pub fn fill_with(words: &mut [u64], word: u64) {
     }
 }
 
-pub fn all_are(words: &[u64], word: u64) -> bool {
-    let mut i: usize = 0;
-    while i < words.len() {
-        if words[i] != word {
-            return false;
-        }
-        i = i + 1;
-    }
-    true
-}
-
 pub fn same_words(words: &[u64], right: &[u64]) -> bool {
     let mut i: usize = 0;
     while i < words.len() {
@@ -107,6 +96,14 @@ pub fn same_words(words: &[u64], right: &[u64]) -> bool {
         i = i + 1;
     }
     true
+}
+
+// The first is that word, and each of the others is as the one before it.
+pub fn all_are(words: &[u64], word: u64) -> bool {
+    if words.len() == 0 {
+        return true;
+    }
+    (words[0] == word) & same_words(&words[1..], words)
 }
 
 pub fn has_part(words: &[u64], from: usize, count: u64) -> bool {

@@ -1,4 +1,4 @@
-//! The proved library as Rust sees it: one safe function for each C function.
+//! The proved library as Rust sees it: safe functions over its C functions.
 //!
 //! The C functions take numbers and lent slices (pointer, then length), return numbers, and are
 //! proved total and in bounds, so a call has nothing that its caller could get wrong. This is the
@@ -43,15 +43,13 @@ mod c {
         pub fn compare_row_way_back(cpi: usize, relation: u32, batch_row: usize, part: u32) -> u64;
         pub fn compare_listing_word(i: usize) -> u32;
         pub fn compare_batched(cpi: usize, cycle: usize, word: u32) -> u64;
-        pub fn compare_read_word(word: u32) -> u64;
-        pub fn compare_relation_of(word: u32) -> u64;
-        pub fn compare_coefficient_of(word: u32) -> u64;
-        pub fn compare_is_clean(word: u32) -> u64;
+        pub fn compare_read_word(word: u32, part: u32) -> u64;
         pub fn compare_layout(i: usize) -> u64;
         pub fn compare_segment(i: usize, part: u32) -> u64;
         pub fn compare_width(i: usize) -> u64;
         pub fn compare_default_cpi() -> u64;
         pub fn compare_check_row(
+            way: u32,
             cpi: usize,
             listing: *const u32,
             listing_len: usize,
@@ -60,17 +58,12 @@ mod c {
             scratch: *mut u64,
             scratch_len: usize,
         ) -> u64;
-        pub fn compare_check_house(cpi: usize, batch: *const u64, batch_len: usize) -> u64;
-        pub fn compare_check_row_plain(
+        pub fn compare_check_house(
+            way: u32,
             cpi: usize,
-            listing: *const u32,
-            listing_len: usize,
             batch: *const u64,
             batch_len: usize,
-            scratch: *mut u64,
-            scratch_len: usize,
         ) -> u64;
-        pub fn compare_check_house_plain(cpi: usize, batch: *const u64, batch_len: usize) -> u64;
         pub fn compare_fill_and_check(cpi: usize, batch: *mut u64, batch_len: usize) -> u64;
         pub fn compare_is_house(listing: *const u32, listing_len: usize) -> u64;
         pub fn compare_pack_named(
@@ -108,13 +101,7 @@ mod c {
             out_len: usize,
         ) -> u64;
         pub fn compare_find_row(
-            listing: *const u32,
-            listing_len: usize,
-            relation: u32,
-            row: usize,
-            part: u32,
-        ) -> u64;
-        pub fn compare_read_row(
+            opened: u32,
             listing: *const u32,
             listing_len: usize,
             relation: u32,
@@ -238,22 +225,26 @@ pub fn batched(cpi: usize, cycle: usize, word: u32) -> Answer {
 
 /// What a word stands for by itself, must-be-zero bits passed over, in the numbers of `batched`.
 pub fn read_word(word: u32) -> u64 {
-    unsafe { c::compare_read_word(word) }
+    word_part(word, 0)
 }
 
 /// The relation that bit 29 of a word says: 3 bin, 4 fld.
 pub fn relation_of(word: u32) -> u64 {
-    unsafe { c::compare_relation_of(word) }
+    word_part(word, 1)
 }
 
 /// The coefficient of a word: k for 2^k, 255 for zero.
 pub fn coefficient_of(word: u32) -> u64 {
-    unsafe { c::compare_coefficient_of(word) }
+    word_part(word, 2)
 }
 
 /// 1 where the must-be-zero bits of a word are zero, else 0.
 pub fn is_clean(word: u32) -> u64 {
-    unsafe { c::compare_is_clean(word) }
+    word_part(word, 3)
+}
+
+fn word_part(word: u32, part: u32) -> u64 {
+    unsafe { c::compare_read_word(word, part) }
 }
 
 /// Constant i of the layout, in the order of the proved library's own table.
@@ -279,28 +270,35 @@ pub fn default_cpi() -> u64 {
 /// The verdict on a batch, two words an element. Accepted: rows. Failed: 2^62 + relation · 2^61 +
 /// rows · 2^32 + batch row. Refused: 2^63 + number · 2^32 + place.
 pub fn check_row(cpi: usize, listing: &[u32], batch: &[u64], scratch: &mut [u64]) -> u64 {
-    unsafe {
-        c::compare_check_row(
-            cpi,
-            listing.as_ptr(),
-            listing.len(),
-            batch.as_ptr(),
-            batch.len(),
-            scratch.as_mut_ptr(),
-            scratch.len(),
-        )
-    }
+    checked(Way::Usual, cpi, listing, batch, scratch)
 }
 
 /// The verdict against the house listing, which is not lent. Answers as `check_row` does.
 pub fn check_house(cpi: usize, batch: &[u64]) -> u64 {
-    unsafe { c::compare_check_house(cpi, batch.as_ptr(), batch.len()) }
+    house_checked(Way::Usual, cpi, batch)
 }
 
 /// The same verdict by the plain walk over the listing.
 pub fn check_row_plain(cpi: usize, listing: &[u32], batch: &[u64], scratch: &mut [u64]) -> u64 {
+    checked(Way::Plain, cpi, listing, batch, scratch)
+}
+
+/// The same verdict as `check_house` by the plain walk over the house listing.
+pub fn check_house_plain(cpi: usize, batch: &[u64]) -> u64 {
+    house_checked(Way::Plain, cpi, batch)
+}
+
+/// The two ways to the one verdict, by the numbers that the C functions take.
+#[derive(Clone, Copy)]
+enum Way {
+    Usual = 0,
+    Plain = 1,
+}
+
+fn checked(way: Way, cpi: usize, listing: &[u32], batch: &[u64], scratch: &mut [u64]) -> u64 {
     unsafe {
-        c::compare_check_row_plain(
+        c::compare_check_row(
+            way as u32,
             cpi,
             listing.as_ptr(),
             listing.len(),
@@ -312,9 +310,8 @@ pub fn check_row_plain(cpi: usize, listing: &[u32], batch: &[u64], scratch: &mut
     }
 }
 
-/// The same verdict as `check_house` by the plain walk over the house listing.
-pub fn check_house_plain(cpi: usize, batch: &[u64]) -> u64 {
-    unsafe { c::compare_check_house_plain(cpi, batch.as_ptr(), batch.len()) }
+fn house_checked(way: Way, cpi: usize, batch: &[u64]) -> u64 {
+    unsafe { c::compare_check_house(way as u32, cpi, batch.as_ptr(), batch.len()) }
 }
 
 /// Fills a batch and checks it against the house listing. Answers as `check_house` does on what is
@@ -421,14 +418,17 @@ pub fn reader(listing: &[u32], row: Row, next: Row, i: usize, out: &mut [u64]) -
 /// Where a row starts in any words, for part 0; for any other part where it ends, 0 for one that is
 /// refused.
 pub fn find_row(listing: &[u32], row: Row, part: u32) -> Answer {
-    let (words, len) = (listing.as_ptr(), listing.len());
-    answer(unsafe { c::compare_find_row(words, len, row.relation, row.row, part) })
+    sought(0, listing, row, part)
 }
 
 /// The same in words that are opened first.
 pub fn read_row(listing: &[u32], row: Row, part: u32) -> Answer {
+    sought(1, listing, row, part)
+}
+
+fn sought(opened: u32, listing: &[u32], row: Row, part: u32) -> Answer {
     let (words, len) = (listing.as_ptr(), listing.len());
-    answer(unsafe { c::compare_read_row(words, len, row.relation, row.row, part) })
+    answer(unsafe { c::compare_find_row(opened, words, len, row.relation, row.row, part) })
 }
 
 /// Word i of a row's part of any words, 2^63 past its end.

@@ -5,8 +5,5 @@ use Rattle.base.specs.Laws.Written.{written-zero}
 use Rattle.base.proofs.clear.Statement.{statement}
 use Rattle.base.proofs.clear.Tie as tie
 
-returns : tie.Need-returns
-returns c = written-zero _ _ (c .before .before .clear-from .ensures)
-
 pub clear-spec : {M : Type 1} → statement M
-clear-spec = tie.close (tie.spec (λ c κs. search needs) (λ c. search needs) returns)
+clear-spec = tie.close (tie.spec (λ c κs. search needs) (λ c. search needs) (λ c. search written-zero))

@@ -16,25 +16,10 @@ Inv-loop s₀ start k₀ s k = (start ≤ k) × Written (λ i. 0) start k s₀ s
 abbrev μ-loop : tie.MeasureT-loop
 μ-loop s₀ start k₀ s k = length s₀ - k
 
-loop-holds : tie.Need-loop-holds Inv-loop μ-loop
-loop-holds c = (omega arith, written-none _ _ _)
-
-slice-write-s : tie.Need-slice-write-s Inv-loop μ-loop
-slice-write-s c = omega arith
-
-add-k : tie.Need-add-k Inv-loop μ-loop
-add-k c = omega arith
-
-loop-less : tie.Need-loop-less Inv-loop μ-loop
-loop-less c = omega (arith, c .before .loop .inv .1 .lengths)
-
 loop-again : tie.Need-loop-again Inv-loop μ-loop
 loop-again c =
     let l = c .before .loop in
     (omega arith, written-more _ _ _ _ _ 0 refl (l .inv .0) (omega (arith, l .inv .1 .lengths)) (l .inv .1))
-
-same-length : tie.Need-same-length Inv-loop μ-loop
-same-length c = c .before .loop .inv .1 .lengths
 
 returns : tie.Need-returns Inv-loop μ-loop
 returns c = let l = c .before .loop in written-end _ _ _ _ _ (omega (arith, l .inv .1 .lengths)) (l .inv .1)
@@ -42,4 +27,5 @@ returns c = let l = c .before .loop in written-end _ _ _ _ _ (omega (arith, l .i
 pub clear-from-spec : {M : Type 1} → statement M
 clear-from-spec =
     tie.close
-    (tie.spec Inv-loop μ-loop loop-holds (λ c. search needs) slice-write-s add-k loop-less loop-again same-length returns)
+    (tie.spec Inv-loop μ-loop (λ c. search (written-none, needs)) (λ c. search needs) (λ c. omega arith) (λ c. omega arith)
+    (λ c. search needs) loop-again (λ c. c .before .loop .inv .1 .lengths) returns)

@@ -8,7 +8,7 @@ use native.Mathlib.Omega.{arith}
 use lib.Bits.{bitXor, bitAnd, xor-shr, xor-mod, and-shr, and-mod}
 use lib.Dec.{eqb}
 use lib.Pow.{pow-pos, shr-shr, field, mod-mod-pow}
-use Rattle.base.specs.Bits.{digit, val, _⊻_, word, isSet, majority, bitAt}
+use Rattle.base.specs.Bits.{digit, val, _⊻_, word, isSet, majority, Carries, bitAt}
 use Rattle.base.specs.Laws.Numbers.{zero-or-one, val-bits}
 use Rattle.base.specs.Laws.Values.{val-lt, val-same, same-bits, complement}
 use Rattle.base.specs.Laws.Cases.{of-three}
@@ -98,6 +98,13 @@ bit-not n a i h l =
 unfoldable pub carryInto : ℕ → ℕ → Bool → ℕ → Bool
 carryInto a b s zero = s
 carryInto a b s (suc i) = majority (bitAt a i) (bitAt b i) (carryInto a b s i)
+
+-- whatever holds the carries holds these
+pub carries-into : (n a b : ℕ) (c : ℕ → Bool) → Carries n (bitAt a) (bitAt b) c → (i : ℕ) → i ≤ n → carryInto a b (c 0) i ≡ c i
+unfolding carryInto
+carries-into n a b c h zero l = refl
+carries-into n a b c h (suc i) l =
+    ap (majority (bitAt a i) (bitAt b i)) (carries-into n a b c h i (omega arith)) ∙ sym (h i (omega arith))
 
 -- of words of n + 1 bits
 module _ (n a b : ℕ) (s : Bool) (ha : a < 2 ^ suc n) (hb : b < 2 ^ suc n) where

@@ -1,14 +1,14 @@
--- A column is in a block, and blocks in ascending order: each one's columns hold its word's bits.
+-- A column is in a block, what is so of every such column, and blocks in ascending order: each one's columns hold its word's bits.
 -- Assumes nothing.
-use mathlib.Core.Path.{_≡_, refl, ap₂, ap, _∙_}
-use mathlib.Core.Logic.{_⊎_, inl, inr}
-use mathlib.Core.Bool.{Bool, true, false, _&&_, _||_}
+use mathlib.Core.Path.{_≡_, refl, ap₂, ap, subst, _∙_}
+use mathlib.Core.Logic.{_↔_, _⊎_, inl, inr, ⊎-elim}
+use mathlib.Core.Bool.{Bool, true, false, _&&_, _||_, or-true, false≢true}
 use mathlib.Core.List.{List, [], _∷_}
 use Prim.Native.Nat.{ℕ, _+_, _≤_, _<_, _-_, _^_}
 use native.Mathlib.Omega.{arith}
 use borrow.Author.Tests.{leb-true, ltb-true, le-leb, lt-ltb, le-ltb, lt-leb}
 use lib.Dec.{leb, ltb}
-use Rattle.base.specs.Blocks.{Block, inBlock, between, columnBit}
+use Rattle.base.specs.Blocks.{Block, inBlock, inBlocks, between, columnBit}
 use Rattle.base.specs.Lists.{All}
 use Rattle.base.specs.Bits.{word, bitAt}
 use Rattle.base.specs.Laws.Tests.{both}
@@ -29,6 +29,25 @@ is-in-block k i l = ap₂ _&&_ (le-leb (k .column) (k .column + i) (omega arith)
 pub one-of : (a b : Bool) → (a || b) ≡ true → (a ≡ true) ⊎ (b ≡ true)
 one-of true b e = inl refl
 one-of false b e = inr e
+
+-- what is so of each of a block's columns
+abbrev pub EachColumn : (ℕ → Type 0) → Block → Type 0
+EachColumn P k = (i : ℕ) → i < k .width → P (k .column + i)
+
+-- what is so of each column of every block is so of every column that is in one
+pub every-column : (P : ℕ → Type 0) (ks : List Block) → All (EachColumn P) ks ↔ ((c : ℕ) → inBlocks ks c ≡ true → P c)
+every-column P [] = (λ _ c e. absurd (false≢true e), λ _. tt)
+every-column P (k ∷ ks) =
+    let later = every-column P ks in (
+      λ h c e. ⊎-elim
+          (λ q. let p = in-block k c q in let at : k .column + (c - k .column) ≡ c = omega arith in
+          subst P at (h .0 (c - k .column) (omega arith)))
+          (later .0 (h .1) c) (one-of (inBlock k c) (inBlocks ks c) e),
+      λ g. (
+        λ i l. g (k .column + i) (ap (λ (t : Bool). t || inBlocks ks (k .column + i)) (is-in-block k i l)),
+        later .1 (λ c e. g c (ap (λ (t : Bool). inBlock k c || t) e ∙ or-true (inBlock k c))),
+      ),
+    )
 
 module _ (o limit : ℕ) (k : Block) (ks : List Block) (t : between o limit (k ∷ ks) ≡ true) where
   pub starts : o ≤ k .column

@@ -1,8 +1,8 @@
 -- Identities of Booleans, by computing every case.
 -- Assumes nothing.
 use mathlib.Core.Path.{_≡_, refl, sym, ap}
-use mathlib.Core.Bool.{Bool, true, false, _&&_, Bool·beq, not, true≢false, false≢true}
-use Rattle.base.specs.Bits.{_⊻_}
+use mathlib.Core.Bool.{Bool, true, false, cond, _&&_, _||_, Bool·beq, not, true≢false, false≢true}
+use Rattle.base.specs.Bits.{_⊻_, majority, alike}
 use Rattle.base.specs.Laws.Tests.{both}
 
 beq-≡ : (a b : Bool) → Bool·beq a b ≡ true → a ≡ b
@@ -42,6 +42,10 @@ pub xor-false : (x : Bool) → (x ⊻ false) ≡ x
 xor-false true = refl
 xor-false false = refl
 
+pub xor-true : (x : Bool) → (x ⊻ true) ≡ not x
+xor-true true = refl
+xor-true false = refl
+
 pub xor-two : (x y : Bool) → (x ⊻ (y ⊻ false)) ≡ x ⊻ y
 xor-two = of-two _ _ refl
 
@@ -54,6 +58,19 @@ xor-cancel true true e = refl
 xor-cancel true false e = absurd (true≢false e)
 xor-cancel false true e = absurd (true≢false e)
 xor-cancel false false e = refl
+
+pub alike-not : (x y : Bool) → alike x y ≡ not (x ⊻ y)
+alike-not = of-two _ _ refl
+
+-- ---- a choice, and two of three
+
+pub either : (s a b : Bool) → ((s && a) ⊻ (not s && b)) ≡ cond s a b
+either = of-three _ _ refl
+
+pub two-of-three : (a b c : Bool) → ((a && b) || (a && c) || (b && c)) ≡ majority a b c
+two-of-three = of-three _ _ refl
+
+-- ---- what a Boolean is not
 
 pub not-self : (b : Bool) → not b ≡ b → ⊥
 not-self true e = false≢true e

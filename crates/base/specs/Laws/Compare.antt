@@ -72,7 +72,13 @@ module _ (n : ℕ) (a b c : ℕ → Bool) (first : c 0 ≡ true) (h : Carries n 
           (λ t. eq-eqb (val d (suc n)) 0 (omega (arith, t, difference, ap (λ (x : Bool). 2 ^ suc n * digit x) e)))
       go false e =
           is-eqb (eqb (val d (suc n)) 0) A B
-          (λ t. absurd (omega (arith, eqb-true (val d (suc n)) 0 t, difference, val-lt (suc n) b, ap (λ (x : Bool). 2 ^ suc n * digit x) e)))
+          (λ t. absurd (omega (
+            arith,
+            eqb-true (val d (suc n)) 0 t,
+            difference,
+            val-lt (suc n) b,
+            ap (λ (x : Bool). 2 ^ suc n * digit x) e,
+          )))
           (λ t. absurd (omega (arith, t, difference, val-lt (suc n) d, ap (λ (x : Bool). 2 ^ suc n * digit x) e)))
 
   -- where the two are less than 2^n apart, the difference's top bit decides

@@ -42,7 +42,9 @@ compared-more a b n different h = (
         | yes q ↦ ap (λ (x : ℕ). getD a x 0) q ∙ xor-none (getD a n 0) (getD b n 0) .0 (p .1) ∙ ap (λ (x : ℕ). getD b x 0) (sym q)
         | no q ↦ h .0 (p .0) i (omega arith)
       ],
-  λ s. or-none different (bitXor (getD a n 0) (getD b n 0)) .1 (h .1 (λ i l. s i (omega arith)), xor-none (getD a n 0) (getD b n 0) .1 (s n (omega arith))),
+  λ s.
+      or-none different (bitXor (getD a n 0) (getD b n 0)) .1
+      (h .1 (λ i l. s i (omega arith)), xor-none (getD a n 0) (getD b n 0) .1 (s n (omega arith))),
 )
 
 -- in the end, of lists as long

@@ -5,12 +5,12 @@ use lib.Pow.{shr-shr}
 use mathlib.Core.Path.{_≡_, refl, sym, ap, _∙_}
 use mathlib.Core.Bool.{Bool, true, false, true≢false}
 use Prim.Native.Nat.{ℕ, zero, suc, _<_, _/_, _%_, _^_}
-use native.Mathlib.Nat.{not-suc-le-zero, le-of-suc-le-suc, div-one}
+use native.Mathlib.Nat.{not-suc-le-zero, le-of-suc-le-suc, div-one, mod-eq-of-lt}
 use native.Mathlib.Omega.{arith}
 use borrow.Author.Tests.{eqb-true, eq-eqb, lt-ltb, le-ltb}
 use lib.Dec.{eqb, ltb}
-use Rattle.base.specs.Bits.{digit, val, bitOf, isSet}
-use Rattle.base.specs.Laws.Values.{val-same}
+use Rattle.base.specs.Bits.{digit, val, bitOf, isSet, bitAt}
+use Rattle.base.specs.Laws.Values.{val-lt, val-same}
 
 -- a coefficient is 0 or 1: two cases
 pub zero-or-one : (P : ℕ → Type 0) → P 0 → P 1 → (c : ℕ) → c < 2 → P c
@@ -35,6 +35,10 @@ val-bits (suc n) a l =
       val-same (λ i. isSet (bitOf a (suc i))) (λ i. isSet (bitOf (a / 2) i)) n (λ i o. ap isSet (next-bit a i)),
       val-bits n (a / 2) (omega arith),
     )
+
+-- the number with a word's n bits is the word
+pub made-of : (n w : ℕ) (f : ℕ → Bool) → w < 2 ^ n → ((i : ℕ) → i < n → bitAt w i ≡ f i) → val f n % 2 ^ n ≡ w
+made-of n w f l h = mod-eq-of-lt (val-lt n f) ∙ sym (val-same (bitAt w) f n h) ∙ val-bits n w l
 
 -- ---- a Boolean that says what a test says
 

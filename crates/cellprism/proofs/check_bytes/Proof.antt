@@ -3,20 +3,16 @@
 -- Assumes nothing.
 use mathlib.Core.Path.{sym, ap, _∙_}
 use native.Mathlib.Omega.{arith}
-use borrow.Author.Tests.{eq-eqb, ne-eqb}
-use Rattle.base.specs.Laws.Tests.{passed, refused}
-use Rattle.verdict.specs.declared.CheckAnswer.the-variants.{Refused}
+use borrow.Author.Tests.{eq-eqb}
+use Rattle.base.specs.Laws.Tests.{passed}
 use Rattle.verdict.specs.Check.{houseChecked}
 use Rattle.judge.specs.Laws.Short.{house-short}
 use Rattle.cellprism.specs.Answer.{rowChecked}
 use Rattle.cellprism.specs.Laws.Packing.{row-fits}
 use borrow.Author.Needs.{needs}
+use Rattle.base.specs.Laws.WaysOut.{waysOut}
 use Rattle.cellprism.proofs.check_bytes.Statement.{statement}
 use Rattle.cellprism.proofs.check_bytes.Tie as tie
-
-returns : tie.Need-returns
-unfolding rowChecked
-returns c = ap Refused (c .refused .ensures) ∙ refused _ _ _ (ne-eqb _ _ (c .before .if1 .taken))
 
 returns-2 : tie.Need-returns-2
 unfolding rowChecked
@@ -33,7 +29,8 @@ returns-3 c =
     c .check-house .ensures ∙ ap (houseChecked 1) (c3 .read-words .ensures) ∙ passed _ _ _ (eq-eqb _ _ (c7 .if1 .left))
 
 pub check-bytes-spec : {M : Type 1} → statement M
+unfolding rowChecked
 check-bytes-spec =
     tie.close
-    (tie.spec (λ c κs. search needs) returns (λ c κs. search needs) returns-2 (λ c. search needs) (λ c κs. search needs)
-    (λ c. search needs) (λ c κs. search needs) returns-3)
+    (tie.spec (λ c κs. search needs) (λ c. search waysOut) (λ c κs. search needs) returns-2 (λ c. search needs)
+    (λ c κs. search needs) (λ c. search needs) (λ c κs. search needs) returns-3)

@@ -21,35 +21,6 @@ abbrev μ-loop : tie.MeasureT-loop
 returns : tie.Need-returns Inv-loop μ-loop
 returns c = other-length (c .before .before .args .listing .now) circuitWords 3499 (c .if1 .taken) (counts .words)
 
-loop-holds : tie.Need-loop-holds Inv-loop μ-loop
-loop-holds c = (search needs, compared-none (c .before .before .before .args .listing .now) (c .build-circuit .result))
-
-mul-different : tie.Need-mul-different Inv-loop μ-loop
-mul-different c = omega (arith, c .before .before .before .if1 .left, c .loop-test .taken)
-
-shared-slice-read-different : tie.Need-shared-slice-read-different Inv-loop μ-loop
-shared-slice-read-different c = omega (arith, c .before .before .before .before .if1 .left, c .before .loop-test .taken)
-
-mul-different-2 : tie.Need-mul-different-2 Inv-loop μ-loop
-mul-different-2 c = omega (arith, c .before .before .before .before .if1 .left, c .before .loop-test .taken)
-
-array-read-different : tie.Need-array-read-different Inv-loop μ-loop
-array-read-different c = omega (arith, c .before .before .before .before .if1 .left, c .before .loop-test .taken)
-
-add-i : tie.Need-add-i Inv-loop μ-loop
-add-i c = omega (arith, c .before .before .before .before .if1 .left, c .before .loop-test .taken)
-
-loop-less : tie.Need-loop-less Inv-loop μ-loop
-loop-less c = omega (arith, c .before .before .before .before .if1 .left, c .before .loop-test .taken)
-
-loop-again : tie.Need-loop-again Inv-loop μ-loop
-loop-again c =
-    let c2 = c .before .before in let c3 = c2 .before in let c6 = c3 .before .before .before in
-    let l = c2 .loop in (
-      omega (arith, c .before .loop-test .taken),
-      compared-more (c6 .args .listing .now) (c3 .build-circuit .result) (l .i) (l .different) (l .inv .1),
-    )
-
 returns-2 : tie.Need-returns-2 Inv-loop μ-loop
 returns-2 c =
     let c2 = c .before .before in let c3 = c2 .before in let c5 = c3 .before .before in
@@ -62,5 +33,6 @@ returns-2 c =
 pub is-house-spec : {M : Type 1} → statement M
 is-house-spec =
     tie.close
-    (tie.spec Inv-loop μ-loop returns (λ c κs. search needs) loop-holds mul-different shared-slice-read-different
-    mul-different-2 array-read-different add-i loop-less loop-again returns-2)
+    (tie.spec Inv-loop μ-loop returns (λ c κs. search needs) (λ c. search (compared-none, needs)) (λ c. search needs)
+    (λ c. search needs) (λ c. search needs) (λ c. search needs) (λ c. search needs) (λ c. search needs)
+    (λ c. search (compared-more, needs)) returns-2)

@@ -19,9 +19,12 @@ batch-number-spec =
     (λ c. omega (arith, c .coefficient-number .ensures, ap batchNumber (c .before .before .w2 .given .1)))
     (λ c. omega (arith, c .coefficient-number .ensures, ap batchNumber (c .before .before .w2 .given .1)))
     (λ c κs. search needs) (λ c. search needs)
-    (λ c. let b = c .before in omega (arith, c .side-kind .ensures, b .coefficient-number .ensures, ap batchNumber (b .before .before .w2 .given .1)))
-    (λ c. let b = c .before in omega (arith, c .side-kind .ensures, b .coefficient-number .ensures, ap batchNumber (b .before .before .w2 .given .1)))
+    (λ c. let b = c .before in let n = ap batchNumber (b .before .before .w2 .given .1) in
+    omega (arith, c .side-kind .ensures, b .coefficient-number .ensures, n))
+    (λ c. let b = c .before in let n = ap batchNumber (b .before .before .w2 .given .1) in
+    omega (arith, c .side-kind .ensures, b .coefficient-number .ensures, n))
     (λ c. search needs) (λ c κs. search needs)
     (λ c. omega (arith, c .mark-number .ensures, ap batchNumber (c .before .before .w .given .1)))
-    (λ c. let b = c .before in omega (arith, c .side-kind .ensures, b .coefficient-number .ensures, ap batchNumber (b .before .before .w2 .given .1)))
+    (λ c. let b = c .before in let n = ap batchNumber (b .before .before .w2 .given .1) in
+    omega (arith, c .side-kind .ensures, b .coefficient-number .ensures, n))
     refusal)

@@ -7,7 +7,7 @@ use native.Mathlib.Omega.{arith}
 use Rattle.base.specs.Lists.{All}
 use Rattle.base.specs.Bits.{_⊻_, word, majority}
 use Rattle.base.specs.Laws.Values.{val-lt}
-use Rattle.base.specs.Laws.Cases.{of-three, xor-false}
+use Rattle.base.specs.Laws.Cases.{of-three, xor-false, alike-not}
 use Rattle.base.specs.Laws.Bits.{carryInto, carry-bit, word-bit}
 use Rattle.layout.specs.Columns.{ONE-COL, T1, T2, CARRY-OFF, ALU, SUB, ZERO}
 use Rattle.circuit.specs.Circuit.{is, firstCarryRow, adderRow, copyRows, zeroRows}
@@ -16,7 +16,7 @@ use Rattle.step.specs.Solve.{lacks, Holds}
 use Rattle.step.specs.Laws.Sides.{sum-one, sum-is}
 use Rattle.filler.specs.Derive.{carryWord}
 use Rattle.filler.specs.Laws.Derive.{ByWords}
-use Rattle.filler.specs.Laws.Holds.{alike-not, product-holds, copy-holds, chain-holds}
+use Rattle.filler.specs.Laws.Holds.{product-holds, copy-holds, chain-holds}
 
 adder-zero : (a b c : Bool) → (((a ⊻ (c ⊻ false)) && (b ⊻ (c ⊻ false))) ⊻ (majority a b c ⊻ (c ⊻ false))) ≡ false
 adder-zero = of-three _ (λ a b c. false) refl

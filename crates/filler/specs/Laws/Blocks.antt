@@ -1,12 +1,11 @@
 -- What a batch holds after words are put into blocks of a cycle's columns.
 -- Assumes nothing.
-use mathlib.Core.Path.{_≡_, refl, sym, ap, subst, _∙_}
+use mathlib.Core.Path.{_≡_, refl, sym, subst, _∙_}
 use mathlib.Core.Logic.{⊎-elim}
-use mathlib.Core.Bool.{Bool, true, _||_, or-true, false≢true}
+use mathlib.Core.Bool.{Bool, true, false≢true}
 use mathlib.Core.List.{List, [], _∷_}
-use Prim.Native.Nat.{ℕ, zero, suc, _+_, _*_, _-_, _≤_, _<_}
+use Prim.Native.Nat.{ℕ, zero, suc, _+_, _*_, _≤_, _<_}
 use native.Mathlib.Nat.{add-right-cancel, eq-of-mul-eq-mul-right, eq-or-lt-of-le, le-of-suc-le-suc, not-suc-le-zero}
-use native.Mathlib.Decide.{ℕ-discrete}
 use native.Mathlib.Omega.{arith}
 use lib.Arith.{digits-lt}
 use lib.Dec.{eqb}
@@ -14,14 +13,15 @@ use lib.ListN.{length}
 use Rattle.base.specs.Lists.{All}
 use Rattle.base.specs.Bits.{bitAt}
 use Rattle.base.specs.Blocks.{between, Block, inBlock, inBlocks}
-use Rattle.base.specs.Laws.Blocks.{ends, goes-on, in-block, one-of, is-in-block, starts}
+use Rattle.base.specs.Laws.Lists.{all-then}
+use Rattle.base.specs.Laws.Blocks.{EachColumn, ends, every-column, goes-on, in-block, one-of, starts}
 use Rattle.field.specs.Gf.{low, ofBit}
 use Rattle.field.specs.Gf.Bits.{as-bit}
 use Rattle.layout.specs.Batch.{batchWords}
 use Rattle.verdict.specs.Row.{elementAt}
 use Rattle.step.specs.Filling.{put}
-use Rattle.step.specs.Laws.FillingElements.{by-elements, put-length, put-here, put-elsewhere}
-use Rattle.filler.specs.Blocks.{putWord, putBlocks}
+use Rattle.step.specs.Laws.FillingElements.{put-length, put-here, put-elsewhere}
+use Rattle.filler.specs.Blocks.{putWord, putBlocks, HoldsWord}
 
 abbrev pub ordered : ℕ → List Block → Bool
 ordered o ks = between o 2048 ks
@@ -76,15 +76,12 @@ module _ (cpi d : ℕ) (l : d < cpi) where
   -- whatever is none of the blocks' columns stays
   pub blocks-elsewhere : (ks : List Block) (b : List ℕ) (x : ℕ) → ((c : ℕ) → inBlocks ks c ≡ true → x ≡ c * cpi + d → ⊥)
       → elementAt (putBlocks cpi d ks b) x ≡ elementAt b x
-  blocks-elsewhere [] b x h = refl
-  blocks-elsewhere (k ∷ ks) b x h =
-      blocks-elsewhere ks _ x (λ c e. h c (ap (λ (t : Bool). inBlock k c || t) e ∙ or-true (inBlock k c)))
-      ∙ word-elsewhere (k .column) (k .word) (k .width) b x
-      (λ i m. h (k .column + i) (ap (λ (t : Bool). t || inBlocks ks (k .column + i)) (is-in-block k i m)))
-
-  -- the columns of a block hold its word's bits
-  abbrev pub Written : List ℕ → Block → Type 0
-  Written batch k = (i : ℕ) → i < k .width → elementAt batch ((k .column + i) * cpi + d) ≡ ofBit (bitAt (k .word) i)
+  blocks-elsewhere ks b x h = go ks b (every-column (λ c. x ≡ c * cpi + d → ⊥) ks .1 h)
+    where
+      go : (ks : List Block) (b : List ℕ) → All (EachColumn (λ c. x ≡ c * cpi + d → ⊥)) ks
+          → elementAt (putBlocks cpi d ks b) x ≡ elementAt b x
+      go [] b h = refl
+      go (k ∷ ks) b h = go ks _ (h .1) ∙ word-elsewhere (k .column) (k .word) (k .width) b x (h .0)
 
   before-blocks : (ks : List Block) (o : ℕ) (b : List ℕ) (c : ℕ) → ordered o ks ≡ true → c < o
       → elementAt (putBlocks cpi d ks b) (c * cpi + d) ≡ elementAt b (c * cpi + d)
@@ -95,7 +92,7 @@ module _ (cpi d : ℕ) (l : d < cpi) where
       ∙ word-elsewhere (k .column) (k .word) (k .width) b (c * cpi + d) (λ i m e. omega (arith, same-column c (k .column + i) e))
 
   pub written : (ks : List Block) (o : ℕ) (b : List ℕ) → length b ≡ batchWords cpi → ordered o ks ≡ true
-      → All (Written (putBlocks cpi d ks b)) ks
+      → All (HoldsWord cpi d (putBlocks cpi d ks b)) ks
   written [] o b s t = tt
   written (k ∷ ks) o b s t =
       let r = goes-on o 2048 k ks t in let B = putWord cpi d (k .column) (k .word) (k .width) b in (
@@ -105,37 +102,8 @@ module _ (cpi d : ℕ) (l : d < cpi) where
       )
 
   -- in a block, a column holds a bit
-  pub holds-bit : (ks : List Block) (batch : List ℕ) → All (Written batch) ks → (c : ℕ) → inBlocks ks c ≡ true
+  pub holds-bit : (ks : List Block) (batch : List ℕ) → All (HoldsWord cpi d batch) ks → (c : ℕ) → inBlocks ks c ≡ true
       → elementAt batch (c * cpi + d) ≡ ofBit (eqb (low (elementAt batch (c * cpi + d))) 1)
-  holds-bit [] batch h c e = absurd (false≢true e)
-  holds-bit (k ∷ ks) batch h c e =
-      ⊎-elim
-      (λ q. let p = in-block k c q in let i = c - k .column in
-      subst (λ (x : ℕ). elementAt batch (x * cpi + d) ≡ ofBit (eqb (low (elementAt batch (x * cpi + d))) 1)) (omega arith)
-      (as-bit (bitAt (k .word) i) (h .0 i (omega arith))))
-      (holds-bit ks batch (h .1) c) (one-of (inBlock k c) (inBlocks ks c) e)
-
-  -- what stands there already changes nothing
-  put-again : (b : List ℕ) (x : ℕ) (v : Bool) → 2 * x + 1 < length b → elementAt b x ≡ ofBit v → put b x v ≡ b
-  put-again b x v l e = by-elements (put b x v) b (put-length b x v) (λ c. go c (ℕ-discrete c x))
-    where
-      go : (c : ℕ) → Dec (c ≡ x) → elementAt (put b x v) c ≡ elementAt b c
-      go c (yes q) = ap (elementAt (put b x v)) q ∙ put-here b x v l ∙ sym e ∙ ap (elementAt b) (sym q)
-      go c (no f) = put-elsewhere b x c v f
-
-  word-again : (o w n : ℕ) (b : List ℕ) → length b ≡ batchWords cpi → o + n ≤ 2048
-      → ((i : ℕ) → i < n → elementAt b ((o + i) * cpi + d) ≡ ofBit (bitAt w i)) → putWord cpi d o w n b ≡ b
-  unfolding putWord
-  word-again o w zero b s f h = refl
-  word-again o w (suc n) b s f h =
-      ap (λ (u : List ℕ). put u ((o + n) * cpi + d) (bitAt w n)) (word-again o w n b s (omega arith) (λ i m. h i (omega arith)))
-      ∙ put-again b ((o + n) * cpi + d) (bitAt w n) (omega (arith, digits-lt {q = o + n} {m = 2048} {r = d} {c = cpi} (omega arith) l))
-      (h n (omega arith))
-
-  pub blocks-again : (ks : List Block) (o : ℕ) (b : List ℕ) → length b ≡ batchWords cpi → ordered o ks ≡ true → All (Written b) ks
-      → putBlocks cpi d ks b ≡ b
-  blocks-again [] o b s t h = refl
-  blocks-again (k ∷ ks) o b s t h =
-      let r = goes-on o 2048 k ks t in
-      ap (putBlocks cpi d ks) (word-again (k .column) (k .word) (k .width) b s (ends ks (k .column + k .width) 2048 r) (h .0))
-      ∙ blocks-again ks (k .column + k .width) b s r (h .1)
+  holds-bit ks batch h =
+      every-column (λ c. elementAt batch (c * cpi + d) ≡ ofBit (eqb (low (elementAt batch (c * cpi + d))) 1)) ks
+      .0 (all-then _ _ (λ k w i m. as-bit (bitAt (k .word) i) (w i m)) ks h)

@@ -12,6 +12,7 @@ use Rattle.base.specs.Bits.{digit, bitOf, _⊻_, bitAt}
 use Rattle.base.specs.Lists.{All}
 use Rattle.base.specs.Fields.{Field, field, flags, pack}
 use Rattle.base.specs.Laws.Values.{val-lt}
+use Rattle.base.specs.Laws.Cases.{alike-not}
 use Rattle.base.specs.Laws.Bits.{bit-digit, bit-cut, bit-xor, word-bit}
 use Rattle.base.specs.Laws.Fields.{flags-fit, Has, HasEach, has-each}
 use Rattle.layout.specs.Columns.{ONE-COL, RS1, RS2, T1, T2, CARRY-OFF, ALU, IS-LOAD, LD-WORD, FETCH-OP, FETCH-FUNCT3, NH, ZERO, OPSYS, EQFM, EQF, LTSA, LTSB, LTUA, LTUB}
@@ -22,9 +23,10 @@ use Rattle.step.specs.Laws.Step.{funct3-lt}
 use Rattle.step.specs.Laws.Sides.{sum-one, sum-two, sum-not, sum-three, sum-isOf}
 use Rattle.filler.specs.Lanes.{hot, pair}
 use Rattle.filler.specs.Derive.{runWord, compareBits, compareWord, opcodeRun, branchWord}
+use Rattle.filler.specs.Met.{flagsAt}
 use Rattle.filler.specs.Laws.Lanes.{hot-lt, pair-lt, thirdAgrees, pair-bit, hot-bit}
-use Rattle.filler.specs.Laws.Derive.{branchFields, flagsAt, topBitsAt, ByWords}
-use Rattle.filler.specs.Laws.Holds.{alike-not, product-holds, chain-holds, stages-hold}
+use Rattle.filler.specs.Laws.Derive.{branchFields, topBitsAt, ByWords}
+use Rattle.filler.specs.Laws.Holds.{product-holds, chain-holds, stages-hold}
 use Rattle.filler.specs.Laws.LaneRows.{neither}
 
 module _ (y : ℕ → Bool) (y1 : y ONE-COL ≡ true) (d : ByWords y) where

@@ -1,45 +1,31 @@
 -- The filler's words bit by bit: carries, chains and lanes as recursions and equalities, with no word operation in them.
 -- Assumes nothing.
 use mathlib.Core.Path.{_≡_, refl, sym, ap, ap₂, _∙_}
-use mathlib.Core.Bool.{Bool, true, false, not, cond, _&&_, _||_}
+use mathlib.Core.Bool.{Bool, true, not, _&&_, _||_}
 use Prim.Native.Nat.{ℕ, zero, suc, _*_, _%_, _^_, _≤_, _<_}
-use native.Mathlib.Nat.{mod-eq-of-lt, mod-lt, lt-of-lt-of-le}
+use native.Mathlib.Nat.{mod-lt, lt-of-lt-of-le}
 use native.Mathlib.Omega.{arith}
 use lib.Bits.{bitXor, xor-lt}
 use lib.Dec.{eqb}
 use lib.Pow.{pow-pos}
-use Rattle.base.specs.Bits.{digit, val, _⊻_, majority, Carries, alike, bitAt}
+use Rattle.base.specs.Bits.{digit, val, _⊻_, Carries, alike, bitAt}
 use Rattle.base.specs.Lists.{allBelow}
-use Rattle.base.specs.Laws.Values.{val-lt, val-same}
-use Rattle.base.specs.Laws.Lists.{below-at}
-use Rattle.base.specs.Laws.Cases.{of-three}
-use Rattle.base.specs.Laws.Numbers.{val-bits}
+use Rattle.base.specs.Laws.Lists.{same-below}
+use Rattle.base.specs.Laws.Cases.{alike-not}
+use Rattle.base.specs.Laws.Numbers.{made-of}
 use Rattle.base.specs.Laws.Chain.{Chained}
-use Rattle.base.specs.Laws.Bits.{carryInto, bit-cut, bit-xor, carry-bit, run-first, run-next}
+use Rattle.base.specs.Laws.Bits.{bit-cut, bit-xor, carries-into, carry-bit, run-first, run-next}
 use Rattle.base.specs.Laws.Fields.{gated, gated-lt}
 use Rattle.filler.specs.Lanes.{hot, pair}
 use Rattle.filler.specs.Derive.{carryWord, runWord, opcodeRun}
-use Rattle.filler.specs.Laws.Lanes.{hot-lt, pair-lt, same-below}
-use Rattle.filler.specs.Laws.Holds.{alike-not}
-
--- the low n bits of the number with a word's n bits are the word
-made-of : (n w : ℕ) (f : ℕ → Bool) → w < 2 ^ n → ((i : ℕ) → i < n → bitAt w i ≡ f i) → val f n % 2 ^ n ≡ w
-made-of n w f l h = mod-eq-of-lt (val-lt n f) ∙ sym (val-same (bitAt w) f n h) ∙ val-bits n w l
+use Rattle.filler.specs.Laws.Lanes.{hot-lt, pair-lt, by-lanes}
 
 -- ---- the carries of a sum
 
-pub two-of-three : (a b c : Bool) → ((a && b) || (a && c) || (b && c)) ≡ majority a b c
-two-of-three = of-three _ _ refl
-
-module _ (a b : ℕ) (c : ℕ → Bool) (h : Carries 63 (bitAt a) (bitAt b) c) where
-  carries-into : (i : ℕ) → i < 64 → carryInto a b (c 0) i ≡ c i
-  unfolding carryInto
-  carries-into zero l = refl
-  carries-into (suc i) l = ap (majority (bitAt a i) (bitAt b i)) (carries-into i (omega arith)) ∙ sym (h i (omega arith))
-
-  pub carry-bits : a < 2 ^ 64 → b < 2 ^ 64 → (i : ℕ) → i < 64 → bitAt (carryWord a b (digit (c 0))) i ≡ c i
-  unfolding carryWord
-  carry-bits f g i l = carry-bit 63 a b (c 0) f g i l ∙ carries-into i l
+pub carry-bits : (a b : ℕ) (c : ℕ → Bool) → Carries 63 (bitAt a) (bitAt b) c → a < 2 ^ 64 → b < 2 ^ 64 → (i : ℕ) → i < 64
+    → bitAt (carryWord a b (digit (c 0))) i ≡ c i
+unfolding carryWord
+carry-bits a b c h f g i l = carry-bit 63 a b (c 0) f g i l ∙ carries-into 63 a b c h i (omega arith)
 
 -- ---- chains: with a test of each bit, those of the bits below it
 
@@ -64,10 +50,10 @@ opcode-field op k f g p h =
 
 module _ (x : ℕ) (l : x < 8) where
   hot-is : (i : ℕ) → i < 8 → bitAt (hot x) i ≡ eqb x i
-  hot-is = same-below 8 _ _ (below-at 8 (λ x. allBelow 8 λ i. not (bitAt (hot x) i ⊻ eqb x i)) refl x l)
+  hot-is i = by-lanes (λ x. bitAt (hot x)) eqb refl x i l
 
   pair-is : (i : ℕ) → i < 8 → bitAt (pair x) i ≡ eqb (x % 4) (i % 4)
-  pair-is = same-below 8 _ _ (below-at 8 (λ x. allBelow 8 λ i. not (bitAt (pair x) i ⊻ eqb (x % 4) (i % 4))) refl x l)
+  pair-is i = by-lanes (λ x. bitAt (pair x)) (λ x i. eqb (x % 4) (i % 4)) refl x i l
 
   pub hot-field : val (λ k. eqb x k) 8 % 2 ^ 8 ≡ hot x
   hot-field = made-of 8 (hot x) _ (hot-lt x l) hot-is
@@ -83,12 +69,3 @@ module _ (x : ℕ) (l : x < 8) where
   pub one-of-two : (i j : ℕ) → allBelow 8 (λ x. not ((bitAt (hot x) i ⊻ bitAt (hot x) j) ⊻ (eqb x i || eqb x j))) ≡ true
       → bitAt (hot x) i ⊻ bitAt (hot x) j ≡ (eqb x i || eqb x j)
   one-of-two i j t = same-below 8 (λ x. bitAt (hot x) i ⊻ bitAt (hot x) j) (λ x. eqb x i || eqb x j) t x l
-
--- ---- what the comparisons add, as a choice
-
-pub xor-true : (b : Bool) → (b ⊻ true) ≡ not b
-xor-true true = refl
-xor-true false = refl
-
-pub either : (s a b : Bool) → ((s && a) ⊻ (not s && b)) ≡ cond s a b
-either = of-three _ _ refl

@@ -12,6 +12,7 @@ use lib.ListN.{length}
 use Rattle.base.specs.Bits.{digit, word, bitAt}
 use Rattle.base.specs.Lists.{All}
 use Rattle.base.specs.Blocks.{Block, block, inBlocks}
+use Rattle.base.specs.Laws.Lists.{same-below}
 use Rattle.base.specs.Laws.Values.{val-same}
 use Rattle.base.specs.Laws.Bits.{bit-digit, bit-shr, word-part, word-bit}
 use Rattle.field.specs.declared.Gf128.{Gf128}
@@ -32,12 +33,12 @@ use Rattle.step.specs.Laws.FillingElements.{not-derived}
 use Rattle.filler.specs.declared.derive.GivenWords.{GivenWords}
 use Rattle.filler.specs.declared.derive.DerivedWords.{DerivedWords}
 use Rattle.filler.specs.Derive.{carryWord, runWord, laneWord, branchWord, takenBit}
-use Rattle.filler.specs.Blocks.{putBlocks}
+use Rattle.filler.specs.Blocks.{putBlocks, HoldsWord}
 use Rattle.filler.specs.Words.{wordAt, givenWords, gateFlags, topBitsOf, lanesOf, carryOf, derivedWords, flagBlocks, highBlocks, blocks, fillCycle}
-use Rattle.filler.specs.Laws.Lanes.{same-below}
-use Rattle.filler.specs.Laws.Derive.{flagsAt, topBitsAt, ByWords}
+use Rattle.filler.specs.Met.{flagsAt}
+use Rattle.filler.specs.Laws.Derive.{topBitsAt, ByWords}
 use Rattle.filler.specs.Laws.Rows.{rows-hold}
-use Rattle.filler.specs.Laws.Blocks.{ordered, Written, blocks-below, blocks-length, blocks-elsewhere, written, holds-bit}
+use Rattle.filler.specs.Laws.Blocks.{ordered, blocks-below, blocks-length, blocks-elsewhere, written, holds-bit}
 
 -- ---- the two computed tests: the blocks are in order, and are the derived columns
 
@@ -51,6 +52,12 @@ module _ (g : GivenWords) (w : DerivedWords) where
 
   pub in-blocks-derived : (c : ℕ) → inBlocks (blocks g w) c ≡ true → derived c ≡ true
   in-blocks-derived c e = blocks-are-derived c (blocks-below (blocks g w) 0 c blocks-ordered e) ∙ e
+
+-- a column that holds a bit
+pub at-column : (cpi d : ℕ) (batch : List ℕ) (c : ℕ) (v : Bool) → c < 2048 → elementAt batch (c * cpi + d) ≡ ofBit v
+    → bitsOf cpi batch d c ≡ v
+unfolding bitsOf cycleOf
+at-column cpi d batch c v m e = ap (λ (x : Gf128). eqb (low x) 1) (ap (elementAt batch) (witness-column cpi c d m) ∙ e) ∙ low-bit v
 
 module _ (cpi d : ℕ) (l : d < cpi) (b : List ℕ) (s : length b ≡ batchWords cpi) where
   abbrev g : GivenWords
@@ -72,13 +79,18 @@ module _ (cpi d : ℕ) (l : d < cpi) (b : List ℕ) (s : length b ≡ batchWords
   abbrev y : ℕ → Bool
   y = bitsOf cpi W d
 
-  parts : All (Written cpi d l W) ks
+  parts : All (HoldsWord cpi d W) ks
   parts = written cpi d l ks 0 b s (blocks-ordered g w)
 
-  flag-parts : All (Written cpi d l W) (flagBlocks w ++ highBlocks w)
+  -- each block's columns hold its word's bits
+  pub cycle-words : All (HoldsWord cpi d (fillCycle cpi d b)) (blocks (givenWords cpi b d) (derivedWords (givenWords cpi b d)))
+  unfolding fillCycle
+  cycle-words = parts
+
+  flag-parts : All (HoldsWord cpi d W) (flagBlocks w ++ highBlocks w)
   flag-parts = parts .1 .1 .1 .1
 
-  high-parts : All (Written cpi d l W) (highBlocks w)
+  high-parts : All (HoldsWord cpi d W) (highBlocks w)
   high-parts = flag-parts .1 .1
 
   -- ---- what stays
@@ -120,13 +132,9 @@ module _ (cpi d : ℕ) (l : d < cpi) (b : List ℕ) (s : length b ≡ batchWords
 
   -- ---- the derived words, as the cycle after has them
 
-  at-column : (c : ℕ) (v : Bool) → c < 2048 → elementAt W (c * cpi + d) ≡ ofBit v → y c ≡ v
-  unfolding bitsOf cycleOf
-  at-column c v m e = ap (λ (x : Gf128). eqb (low x) 1) (ap (elementAt W) (witness-column cpi c d m) ∙ e) ∙ low-bit v
-
   in-part : (o n v : ℕ) → ((i : ℕ) → i < n → elementAt W ((o + i) * cpi + d) ≡ ofBit (bitAt v i)) → o + n ≤ 2048
       → (i : ℕ) → i < n → y (o + i) ≡ bitAt v i
-  in-part o n v h m i k = at-column (o + i) (bitAt v i) (omega arith) (h i k)
+  in-part o n v h m i k = at-column cpi d W (o + i) (bitAt v i) (omega arith) (h i k)
 
   flag : (i : ℕ) → i < 64 → derived (FLAGS + i) ≡ false → bitAt (g .flags) i ≡ y (FLAGS + i)
   flag i m e = given-bit FLAGS i m e
@@ -179,7 +187,7 @@ module _ (cpi d : ℕ) (l : d < cpi) (b : List ℕ) (s : length b ≡ batchWords
   branch : (i : ℕ) → i < 39 → y (OPSYS + i) ≡ bitAt (w .branches) i
   branch = in-part OPSYS 39 (w .branches) (high-parts .1 .1 .0) (omega arith)
 
-  copied : (o source : ℕ) → Written cpi d l W (block o 64 (wordAt cpi b d source)) → o + 64 ≤ 2048 → allGiven source 64 ≡ true
+  copied : (o source : ℕ) → HoldsWord cpi d W (block o 64 (wordAt cpi b d source)) → o + 64 ≤ 2048 → allGiven source 64 ≡ true
       → (i : ℕ) → i < 64 → y (o + i) ≡ y (source + i)
   copied o source h m t i k = in-part o 64 _ h m i k ∙ given-bit source i k (given-at 64 source (source + i) t (omega arith) (omega arith))
 
@@ -208,11 +216,14 @@ module _ (cpi d : ℕ) (l : d < cpi) (b : List ℕ) (s : length b ≡ batchWords
       }
 
   -- its determining rows hold, so it is the filling
+  pub cycle-filled : z ONE-COL ≡ true → (c : ℕ) → c < 2048 → bitsOf cpi (fillCycle cpi d b) d c ≡ filledBits z c
+  unfolding fillCycle
+  cycle-filled one = filled-only z one y kept (rows-hold y (kept ONE-COL one-given ∙ one) by-words)
+
   pub cycle-derived : z ONE-COL ≡ true → (c : ℕ) → derived c ≡ true → elementAt (fillCycle cpi d b) (c * cpi + d) ≡ ofBit (filledBits z c)
-  unfolding fillCycle bitsOf cycleOf
+  unfolding bitsOf cycleOf
   cycle-derived one c e =
       let m = derived-below c e in
-      holds-bit cpi d l ks W parts c (sym (blocks-are-derived g w c m) ∙ e)
+      holds-bit cpi d l ks (fillCycle cpi d b) cycle-words c (sym (blocks-are-derived g w c m) ∙ e)
       ∙ ap (λ (v : Bool). ofBit v)
-      (ap (λ (x : ℕ). eqb (low (elementAt W x)) 1) (sym (witness-column cpi c d m))
-      ∙ filled-only z one y kept (rows-hold y (kept ONE-COL one-given ∙ one) by-words) c m)
+      (ap (λ (x : ℕ). eqb (low (elementAt (fillCycle cpi d b) x)) 1) (sym (witness-column cpi c d m)) ∙ cycle-filled one c m)

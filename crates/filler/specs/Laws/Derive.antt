@@ -6,11 +6,12 @@ use mathlib.Core.List.{List, _∷_}
 use Prim.Native.Nat.{ℕ, _+_, _<_}
 use Rattle.base.specs.Bits.{digit, _⊻_, word, bitAt}
 use Rattle.base.specs.Fields.{Field, field, flags}
-use Rattle.layout.specs.Columns.{RS1, RS2, LOAD-VAL, T1, T2, CARRY-OFF, ALU, SHIFT-SRC, STORE-OLD, STORE-SRC, SUB, WE, IS-LOAD, HALT, LD-BYTE, LD-HALF, LD-WORD, TAKEN, EQA, ZERO, OPSYS, OPBR, EQF, CEQ, CLT, CLU}
+use Rattle.layout.specs.Columns.{RS1, RS2, LOAD-VAL, T1, T2, CARRY-OFF, ALU, SHIFT-SRC, STORE-OLD, STORE-SRC, SUB, HALT, TAKEN, EQA, ZERO, OPSYS, OPBR, EQF, CEQ, CLT, CLU}
 use Rattle.step.specs.Step.{opcode, funct3, offset}
-use Rattle.filler.specs.declared.derive.Flags.{Flags}
+use Rattle.filler.specs.declared.bits.Flags.{Flags}
 use Rattle.filler.specs.declared.derive.TopBits.{TopBits}
 use Rattle.filler.specs.Lanes.{hot, pair}
+use Rattle.filler.specs.Met.{flagsAt}
 use Rattle.filler.specs.Derive.{compareBits, opcodeRun, runWord, laneWord, carryWord, branchWord}
 
 -- columns 1088..1126: OPSYS, OPBR, EQFM, EQF, and the comparisons
@@ -19,9 +20,6 @@ branchFields op f3 t f =
     field 7 (opcodeRun op 0x73) ∷ field 7 (opcodeRun op 0x63) ∷ field 8 (pair f3) ∷ field 8 (hot f3) ∷ flags (compareBits (hot f3) t f)
 
 -- ---- a cycle whose derived columns are as the words say
-
-abbrev pub flagsAt : (ℕ → Bool) → Flags
-flagsAt y = record { write = y WE; load = y IS-LOAD; byte = y LD-BYTE; half = y LD-HALF; whole = y LD-WORD }
 
 abbrev pub topBitsAt : (ℕ → Bool) → TopBits
 topBitsAt y =

@@ -1,6 +1,6 @@
 -- Rows hold where their columns are what they say: the shapes that the determining rows have.
 -- Assumes nothing.
-use mathlib.Core.Path.{_≡_, refl, sym, ap, ap₂, _∙_}
+use mathlib.Core.Path.{_≡_, sym, ap, ap₂, _∙_}
 use mathlib.Core.Bool.{Bool, true, false, not, _&&_}
 use mathlib.Core.List.{List, [], _∷_}
 use Prim.Native.Nat.{ℕ, zero, suc, _+_, _-_, _^_, _≤_, _<_}
@@ -9,7 +9,7 @@ use native.Mathlib.Omega.{arith}
 use Rattle.base.specs.Lists.{All, from}
 use Rattle.base.specs.Bits.{_⊻_, word, alike, bitAt}
 use Rattle.base.specs.Laws.From.{all-from}
-use Rattle.base.specs.Laws.Cases.{of-two, xor-self, xor-false}
+use Rattle.base.specs.Laws.Cases.{xor-self, xor-false}
 use Rattle.base.specs.Laws.Bits.{run-first, run-next, word-bit}
 use Rattle.layout.specs.Columns.{ONE-COL}
 use Rattle.circuit.specs.Rows.{Term}
@@ -19,14 +19,6 @@ use Rattle.step.specs.Solve.{lacks, Holds}
 use Rattle.step.specs.Laws.Sides.{sum-one, sum-more, sum-two}
 use Rattle.filler.specs.Derive.{runWord}
 use Rattle.filler.specs.Laws.Lanes.{lowAgree, thirdAgrees}
-
-infixr 20 _and_
--- facts side by side, as All asks for them
-abbrev pub _and_ : {A B : Type 0} → A → B → A × B
-a and b = (a, b)
-
-pub alike-not : (a k : Bool) → alike a k ≡ not (a ⊻ k)
-alike-not = of-two _ _ refl
 
 module _ (y : ℕ → Bool) (y1 : y ONE-COL ≡ true) where
   -- a row whose C is one column

@@ -9,6 +9,7 @@ use native.Mathlib.Omega.{arith}
 use Rattle.base.specs.Bits.{digit, bitOf, bitAt}
 use Rattle.base.specs.Lists.{All}
 use Rattle.base.specs.Fields.{Field, field, pack}
+use Rattle.base.specs.Laws.Lists.{_and_}
 use Rattle.base.specs.Laws.Bits.{bit-digit}
 use Rattle.base.specs.Laws.Fields.{flags-fit, Has, HasEach, has-each, gated, gated-lt}
 use Rattle.layout.specs.Columns.{ONE-COL, WE, IS-LOAD, LD-BYTE, LD-HALF, LD-WORD, OFF, EQA, PA, EQB, PB, NH, WNL}
@@ -19,9 +20,10 @@ use Rattle.step.specs.Laws.Step.{offset-lt}
 use Rattle.step.specs.Laws.Sides.{sum-one, sum-is}
 use Rattle.filler.specs.Lanes.{hot, pair, next}
 use Rattle.filler.specs.Derive.{gateBits, laneFields, laneWord}
+use Rattle.filler.specs.Met.{flagsAt}
 use Rattle.filler.specs.Laws.Lanes.{hot-lt, pair-lt, lowAgree, thirdAgrees, pair-bit, hot-bit, pair-next, hot-next}
-use Rattle.filler.specs.Laws.Derive.{flagsAt, ByWords}
-use Rattle.filler.specs.Laws.Holds.{_and_, product-holds, stages-hold}
+use Rattle.filler.specs.Laws.Derive.{ByWords}
+use Rattle.filler.specs.Laws.Holds.{product-holds, stages-hold}
 
 module _ (y : ℕ → Bool) (y1 : y ONE-COL ≡ true) (d : ByWords y) where
   abbrev x : ℕ

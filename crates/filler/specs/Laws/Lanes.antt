@@ -4,12 +4,10 @@ use mathlib.Core.Path.{_≡_, refl}
 use mathlib.Core.Bool.{Bool, true, not, _&&_}
 use Prim.Native.Nat.{ℕ, _+_, _%_, _^_, _<_}
 use native.Mathlib.Omega.{arith}
-use borrow.Author.Tests.{not-true}
 use lib.Pow.{pow-lt, pow-mono}
 use Rattle.base.specs.Lists.{allBelow}
 use Rattle.base.specs.Bits.{_⊻_, alike, bitAt}
-use Rattle.base.specs.Laws.Lists.{below-at}
-use Rattle.base.specs.Laws.Cases.{xor-cancel}
+use Rattle.base.specs.Laws.Lists.{below-at, same-below}
 use Rattle.filler.specs.Lanes.{hot, pair, next}
 
 pub hot-lt : (x : ℕ) → x < 8 → hot x < 2 ^ 8
@@ -18,15 +16,10 @@ hot-lt x l = pow-lt l
 pub pair-lt : (x : ℕ) → pair x < 2 ^ 8
 pair-lt x = omega (arith, pow-mono {i = x % 4} {j = 3} (omega arith))
 
--- ---- two tests of every number below n
-
-pub same-below : (n : ℕ) (f g : ℕ → Bool) → allBelow n (λ i. not (f i ⊻ g i)) ≡ true → (i : ℕ) → i < n → f i ≡ g i
-same-below n f g t i l = xor-cancel (f i) (g i) (not-true (f i ⊻ g i) (below-at n (λ i. not (f i ⊻ g i)) t i l))
-
 -- ---- the bits, for every x and every lane
 
 module _ (f g : ℕ → ℕ → Bool) (t : allBelow 8 (λ x. allBelow 8 λ i. not (f x i ⊻ g x i)) ≡ true) where
-  by-lanes : (x i : ℕ) → x < 8 → i < 8 → f x i ≡ g x i
+  pub by-lanes : (x i : ℕ) → x < 8 → i < 8 → f x i ≡ g x i
   by-lanes x i l m = same-below 8 (f x) (g x) (below-at 8 (λ x. allBelow 8 λ i. not (f x i ⊻ g x i)) t x l) i m
 
 -- the low two bits of two numbers agree, or the third

@@ -17,7 +17,7 @@ use Rattle.base.specs.Laws.Cases.{of-two}
 use Rattle.base.specs.Laws.Numbers.{digit-of}
 use Rattle.base.specs.Laws.Bits.{bit-shr}
 use Rattle.step.specs.Filling.{put}
-use Rattle.filler.specs.declared.derive.Flags.{Flags}
+use Rattle.filler.specs.declared.bits.Flags.{Flags}
 use Rattle.filler.specs.declared.derive.TopBits.{TopBits}
 use Rattle.filler.specs.declared.derive.GivenWords.{GivenWords}
 use Rattle.filler.specs.declared.derive.DerivedWords.{DerivedWords}

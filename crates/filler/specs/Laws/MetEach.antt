@@ -11,6 +11,7 @@ use borrow.Author.Tests.{eqb-true, eq-eqb, not-true}
 use lib.Dec.{eqb}
 use lib.ListN.{getD}
 use Rattle.base.specs.Bits.{_⊻_, word, Carries}
+use Rattle.base.specs.Laws.Tests.{both-so}
 use Rattle.base.specs.Laws.Values.{val-lt}
 use Rattle.base.specs.Laws.Bits.{word-part}
 use Rattle.field.specs.declared.Gf128.{Gf128}
@@ -35,10 +36,6 @@ but-not false r = (λ g e n. absurd (false≢true e), λ g e. absurd (false≢tr
 
 equal : (m n : ℕ) → (eqb m n ≡ true) ↔ (m ≡ n)
 equal m n = (eqb-true m n, eq-eqb m n)
-
-pub both-so : (p q : Bool) {P Q : Type 0} → (p ≡ true) ↔ P → (q ≡ true) ↔ Q → ((p && q) ≡ true) ↔ (P × Q)
-both-so true q h k = (λ e. (h .0 refl, k .0 e), λ g. k .1 (g .1))
-both-so false q h k = (λ e. absurd (false≢true e), λ g. h .1 (g .0))
 
 same-is : (x y : Gf128) → (same x y ≡ true) ↔ (x ≡ y)
 same-is x y = (same-true x y, λ e. ap (same x) (sym e) ∙ same-self x)

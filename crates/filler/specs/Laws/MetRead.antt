@@ -1,15 +1,21 @@
 -- What the code reads of a cycle is what the conditions are about: the fields of two words of its columns.
 -- Assumes nothing.
-use mathlib.Core.Path.{_≡_, sym, ap, _∙_}
+use mathlib.Core.Path.{_≡_, sym, ap, ap₂, _∙_}
 use mathlib.Core.Bool.{Bool}
+use mathlib.Core.List.{List}
 use Prim.Native.Nat.{ℕ, _+_, _%_, _^_, _<_}
 use native.Mathlib.Nat.{div-one}
 use native.Mathlib.Omega.{arith}
 use Rattle.base.specs.Bits.{word, bitAt}
 use Rattle.base.specs.Laws.Bits.{word-part, word-bit}
-use Rattle.layout.specs.Columns.{FLAGS, FETCH}
+use Rattle.layout.specs.Columns.{RD, SHIFT-OUT, FLAGS, FETCH}
+use Rattle.verdict.specs.Row.{bitsOf}
 use Rattle.step.specs.Step.{opcode}
-use Rattle.filler.specs.Met.{flagsOf, flagsIn}
+use Rattle.filler.specs.declared.derive.GivenWords.{GivenWords}
+use Rattle.filler.specs.declared.conditions.StepWords.{StepWords}
+use Rattle.filler.specs.declared.conditions.StepFlags.{StepFlags}
+use Rattle.filler.specs.Words.{wordAt, givenWords}
+use Rattle.filler.specs.Met.{wordsOf, flagsOf, stepWords, flagsIn}
 
 module _ (b : ℕ → Bool) where
   pub opcode-in : word b FETCH 64 % 2 ^ 7 ≡ opcode b
@@ -33,3 +39,17 @@ module _ (b : ℕ → Bool) where
         word-part b FLAGS 64 16 3 (omega arith),
         word-part b FLAGS 64 24 8 (omega arith),
       )
+
+-- ---- of a cycle of a batch, from the words that its derived columns depend on and two more
+
+module _ (cpi d : ℕ) (batch : List ℕ) {g : GivenWords} (e : g ≡ givenWords cpi batch d) where
+  pub words-are : {rd shift : ℕ} {w : StepWords} → rd ≡ wordAt cpi batch d RD → shift ≡ wordAt cpi batch d SHIFT-OUT
+      → w ≡ stepWords g rd shift → w ≡ wordsOf (bitsOf cpi batch d)
+  unfolding wordAt
+  words-are {rd = rd} {shift = shift} er es ew =
+      ew ∙ ap (λ (h : GivenWords). stepWords h rd shift) e ∙ ap₂ (stepWords (givenWords cpi batch d)) er es
+      ∙ rw (opcode-in (bitsOf cpi batch d))
+
+  pub flags-are : {f : StepFlags} → f ≡ flagsIn (g .flags) → f ≡ flagsOf (bitsOf cpi batch d)
+  unfolding wordAt
+  flags-are ef = ef ∙ ap (λ (h : GivenWords). flagsIn (h .flags)) e ∙ flags-in (bitsOf cpi batch d)

@@ -5,7 +5,7 @@ use mathlib.Core.Bool.{Bool, true}
 use Prim.Native.Nat.{ℕ, _+_}
 use native.Mathlib.Omega.{arith}
 use Rattle.base.specs.Lists.{All}
-use Rattle.base.specs.Laws.Lists.{all-joined}
+use Rattle.base.specs.Laws.Lists.{_and_, all-joined}
 use Rattle.base.specs.Laws.From.{all-from, all-each}
 use Rattle.layout.specs.Columns.{ONE-COL, WE, IS-LOAD, HALT, LD-HALF, LD-WORD, OPSYS, OPBR, EQF, CEQ, CLT, CLU}
 use Rattle.circuit.specs.Circuit.{adderRow, copyRows, neitherRow, takenRow, writeGateRow, laneRows, conditionalRows, funct3Rows}
@@ -13,7 +13,7 @@ use Rattle.step.specs.Solve.{Holds}
 use Rattle.step.specs.Determining.{beforeHalt, afterHalt, determiningFamilies, determining}
 use Rattle.step.specs.Laws.Sides.{sum-one, sum-not, sum-six}
 use Rattle.filler.specs.Laws.Derive.{ByWords}
-use Rattle.filler.specs.Laws.Holds.{_and_, product-holds, copy-holds}
+use Rattle.filler.specs.Laws.Holds.{product-holds, copy-holds}
 use Rattle.filler.specs.Laws.AdderRows.{first-carry-holds, adder-holds, copies-hold, zeros-hold}
 use Rattle.filler.specs.Laws.LaneRows.{lanes-hold, conditionals-hold, neither, write-gate}
 use Rattle.filler.specs.Laws.BranchRows.{has-branches, in-branches, opcode-holds, funct3-hold, comparisons-hold, mux-hold, extend16-holds, extend8-holds}

@@ -25,7 +25,7 @@ use Rattle.step.specs.Laws.Batch.{one-bit, same-given, same-public, of-bits, fi
 use Rattle.judge.specs.Judged.{JudgedYes}
 use Rattle.judge.specs.Judges.{OverBits}
 use Rattle.judge.specs.Laws.Exactly.{judged-exactly}
-use Rattle.judge.specs.Laws.Judges.{bits-fit}
+use Rattle.judge.specs.Laws.Judges.{bits-over}
 
 module _ (cpi : ℕ) (some : 0 < cpi) (batch : List ℕ) (p : Premises cpi batch) where
   abbrev W : List ℕ
@@ -62,13 +62,7 @@ module _ (cpi : ℕ) (some : 0 < cpi) (batch : List ℕ) (p : Premises cpi batch
 
   -- it is over bits
   pub filled-over : OverBits cpi (filled cpi batch)
-  filled-over =
-      record {
-        words = filled-words;
-        fit = bits-fit cpi W batch filled-bits public-same (p .fit);
-        bits = filled-bits;
-        one-is = public-same (2048 * cpi) (omega arith) ∙ p .one-is;
-      }
+  filled-over = bits-over cpi W batch filled-words filled-bits public-same (p .fit) (p .one-is)
 
   -- it is judged with yes exactly when every cycle meets the conditions
   pub judges-filled : JudgedYes cpi (filled cpi batch) ↔ ((d : ℕ) → d < cpi → Step (bitsOf cpi batch d) (cycleOf cpi batch d (ONE-COL + 1)))

@@ -14,12 +14,12 @@ use lib.ListN.{length, getD}
 use Rattle.base.specs.Lists.{All}
 use Rattle.base.specs.Laws.Values.{digit-lt}
 use Rattle.field.specs.declared.Gf128.{Gf128}
-use Rattle.field.specs.Gf.{low, isBit, odd, ofBit}
+use Rattle.field.specs.Gf.{one, low, isBit, odd, ofBit}
 use Rattle.field.specs.Gf.Tests.{isBit-true}
 use Rattle.field.specs.Gf.Bits.{as-bit, bit-words}
 use Rattle.field.specs.Gf.Laws.{words-injective}
 use Rattle.layout.specs.Columns.{ONE-COL}
-use Rattle.layout.specs.Batch.{allowed}
+use Rattle.layout.specs.Batch.{allowed, batchWords}
 use Rattle.layout.specs.Laws.Sizes.{allowed-range}
 use Rattle.layout.specs.Laws.Mapping.{witness-column}
 use Rattle.circuit.specs.Circuit.{circuitWords}
@@ -46,7 +46,7 @@ use Rattle.judge.specs.Laws.Exactly.{judged-exactly}
 use Rattle.verdict.specs.Laws.Verdicts as verdicts
 
 -- the words of bits fit, and so do others' words where elements are the same
-pub bits-fit : (cpi : ℕ) (u w : List ℕ) → ((x : ℕ) → x < 2048 * cpi → isBit (elementAt u x) ≡ true)
+bits-fit : (cpi : ℕ) (u w : List ℕ) → ((x : ℕ) → x < 2048 * cpi → isBit (elementAt u x) ≡ true)
     → ((x : ℕ) → 2048 * cpi ≤ x → elementAt u x ≡ elementAt w x) → ((i : ℕ) → getD w i 0 < 2 ^ 64) → (i : ℕ) → getD u i 0 < 2 ^ 64
 bits-fit cpi u w bits same fit = each-word (λ (i : ℕ). getD u i 0 < 2 ^ 64) (λ x. go x (decLt x (2048 * cpi)))
   where
@@ -56,6 +56,13 @@ bits-fit cpi u w bits same fit = each-word (λ (i : ℕ). getD u i 0 < 2 ^ 64) (
         (omega (arith, e .0, digit-lt b), omega (arith, e .1))
     go x (no f) =
         let e = words-injective _ _ _ _ (same x (omega arith)) in (omega (arith, e .0, fit (2 * x)), omega (arith, e .1, fit (2 * x + 1)))
+
+-- bits below the one column, and the rest as in a batch whose words fit
+pub bits-over : (cpi : ℕ) (u w : List ℕ) → length u ≡ batchWords cpi → ((x : ℕ) → x < 2048 * cpi → isBit (elementAt u x) ≡ true)
+    → ((x : ℕ) → 2048 * cpi ≤ x → elementAt u x ≡ elementAt w x) → ((i : ℕ) → getD w i 0 < 2 ^ 64) → elementAt w (2048 * cpi) ≡ one
+    → OverBits cpi u
+bits-over cpi u w words bits same fit one-is =
+    record { words = words; fit = bits-fit cpi u w bits same fit; bits = bits; one-is = same (2048 * cpi) (omega arith) ∙ one-is }
 
 module _ (cpi : ℕ) (size : allowed cpi ≡ true) (batch : List ℕ) (o : OverBits cpi batch) where
   some : 0 < cpi

@@ -38,7 +38,7 @@ use Rattle.packed.specs.Packed.{namedWord}
 use Rattle.judge.specs.Judged.{judgedCycle, JudgedYes}
 use Rattle.judge.specs.Judges.{OverBits}
 use Rattle.judge.specs.Named.{NamedBits, namedColumns, named}
-use Rattle.judge.specs.Laws.Judges.{bits-fit, judges}
+use Rattle.judge.specs.Laws.Judges.{bits-over, judges}
 
 -- where all are bits, the named ones are
 pub over-named : (cpi : ℕ) (batch : List ℕ) → OverBits cpi batch → NamedBits cpi batch
@@ -109,13 +109,7 @@ module _ (cpi : ℕ) (size : allowed cpi ≡ true) (batch : List ℕ) (o : Named
   W-bits x l = ap isBit (bit-there x l) ∙ isBit-bit (v x)
 
   W-over : OverBits cpi W
-  W-over =
-      record {
-        words = W-words;
-        fit = bits-fit cpi W batch W-bits public-same (o .fit);
-        bits = W-bits;
-        one-is = public-same (2048 * cpi) (omega arith) ∙ o .one-is;
-      }
+  W-over = bits-over cpi W batch W-words W-bits public-same (o .fit) (o .one-is)
 
   public-cycle : (d c : ℕ) → 2048 ≤ c → cycleOf cpi W d c ≡ cycleOf cpi batch d c
   unfolding cycleOf

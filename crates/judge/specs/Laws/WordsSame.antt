@@ -21,11 +21,11 @@ use Rattle.filler.specs.declared.derive.GivenWords.{GivenWords}
 use Rattle.filler.specs.declared.derive.DerivedWords.{DerivedWords}
 use Rattle.filler.specs.declared.conditions.StepWords.{StepWords}
 use Rattle.filler.specs.Words.{derivedWords, blocks}
-use Rattle.filler.specs.Met.{wordsOf, flagsIn, conditions, allTrue}
+use Rattle.filler.specs.Met.{stepWords, wordsOf, flagsIn, conditions, allTrue}
 use Rattle.filler.specs.Laws.MetRead.{opcode-in, flags-in}
 use Rattle.packed.specs.Packed.{namedWord}
 use Rattle.judge.specs.Judged.{givenOf, allWritten, judgedCycle, JudgedYes}
-use Rattle.judge.specs.Words.{wordsFrom, stepIn, givenIn, sameBits, allWrittenIn, judgedWords, allJudged}
+use Rattle.judge.specs.Words.{wordsFrom, givenIn, sameBits, allWrittenIn, judgedWords, allJudged}
 use Rattle.judge.specs.Laws.WordsWalk.{all-judged}
 
 -- every block lies in one word, and in one that is read
@@ -49,9 +49,6 @@ module _ (ws vs : ℕ → ℕ) (h : (k : ℕ) → namedWord k ≡ true → ws k 
       (ap (λ (w : ℕ). sameBits (k .column % 64) (k .width) w (k .word)) (h (k .column / 64) (q .0)))
       (written-agree ks (q .1))
 
-  step-agree : stepIn ws ≡ stepIn vs
-  step-agree = cc (h 0 refl, h 2 refl, h 3 refl, h 4 refl, h 5 refl, h 6 refl, h 8 refl, h 13 refl)
-
   given-agree : givenIn ws ≡ givenIn vs
   given-agree = cc (h 0 refl, h 1 refl, h 3 refl, h 5 refl, h 6 refl, h 8 refl, h 12 refl, h 13 refl)
 
@@ -59,9 +56,18 @@ module _ (ws vs : ℕ → ℕ) (h : (k : ℕ) → namedWord k ≡ true → ws k 
   unfolding judgedWords
   judged-agree output =
       ap₂ _&&_
-      (ap₂ (λ (s : StepWords) (f : ℕ). allTrue (conditions s (flagsIn f) output)) step-agree (h 12 refl))
+      (ap (λ (g : GivenWords). allTrue (conditions (stepWords g (ws 2) (ws 4)) (flagsIn (g .flags)) output)) given-agree
+      ∙ ap₂ (λ (r s : ℕ). allTrue (conditions (stepWords (givenIn vs) r s) (flagsIn (vs 12)) output)) (h 2 refl) (h 4 refl))
       (ap (λ (g : GivenWords). allWrittenIn ws (blocks g (derivedWords g))) given-agree
       ∙ written-agree (blocks (givenIn vs) (derivedWords (givenIn vs))) (blocks-in-words (givenIn vs) (derivedWords (givenIn vs))))
+
+-- ---- from what was read of the words, worked out and tested
+
+pub judged-from : (ws : ℕ → ℕ) (output : Gf128) (g : GivenWords) (rd shift : ℕ) (w : StepWords) (d : DerivedWords) (met all : Bool)
+    → g ≡ givenIn ws → rd ≡ ws 2 → shift ≡ ws 4 → w ≡ stepWords g rd shift → met ≡ allTrue (conditions w (flagsIn (g .flags)) output)
+    → d ≡ derivedWords g → all ≡ allWrittenIn ws (blocks g d) → (met && all) ≡ judgedWords ws output
+unfolding judgedWords
+judged-from ws output g rd shift w d met all eg er es ew em ed ea = rw (em, ea, ed, ew, er, es, eg)
 
 -- ---- a cycle's bits, packed
 
@@ -80,7 +86,7 @@ module _ (b : ℕ → Bool) where
       part : (c n : ℕ) → c % 64 + n ≤ 64 → packed (c / 64) / 2 ^ (c % 64) % 2 ^ n ≡ word b c n
       part c n l = word-part b (64 * (c / 64)) 64 (c % 64) n l ∙ ap (λ (o : ℕ). word b o n) (omega arith)
 
-  step-packed : stepIn packed ≡ wordsOf b
+  step-packed : stepWords (givenIn packed) (packed 2) (packed 4) ≡ wordsOf b
   step-packed = cc (opcode-in b)
 
   judged-packed : (output : Gf128) → judgedWords packed output ≡ judgedCycle b output

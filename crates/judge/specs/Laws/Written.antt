@@ -9,12 +9,12 @@ use native.Mathlib.Nat.{mod-lt}
 use borrow.Author.Tests.{eqb-true, eq-eqb}
 use lib.Pow.{pow-pos}
 use Rattle.base.specs.Lists.{All}
+use Rattle.base.specs.Laws.Tests.{both-so}
 use Rattle.base.specs.Bits.{bitAt}
 use Rattle.base.specs.Blocks.{Block}
 use Rattle.base.specs.Laws.Values.{val-same}
 use Rattle.base.specs.Laws.Numbers.{val-bits}
 use Rattle.base.specs.Laws.Bits.{bit-cut, word-bit}
-use Rattle.filler.specs.Laws.MetEach.{both-so}
 use Rattle.judge.specs.Judged.{isWritten, allWritten}
 
 module _ (b : ℕ → Bool) where

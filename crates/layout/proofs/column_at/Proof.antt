@@ -1,11 +1,10 @@
 -- `layout::column_at` meets its contract: each branch is the definition's, and a batch has at most 4096 * 256 columns.
 -- Assumes nothing.
-use borrow.Author.Tests.{lt-ltb, le-ltb}
 use native.Mathlib.Nat.{mul-le-mul}
 use native.Mathlib.Omega.{arith}
 use Rattle.layout.specs.Batch.{columnAt}
-use Rattle.base.specs.Laws.Tests.{passed, refused}
 use Rattle.layout.specs.Laws.Sizes.{allowed-range}
+use Rattle.base.specs.Laws.WaysOut.{waysOut}
 use Rattle.layout.proofs.column_at.Statement.{statement}
 use Rattle.layout.proofs.column_at.Tie as tie
 
@@ -25,13 +24,6 @@ mul-result-2 c = omega (arith, allowed-range _ (c .before .pre .0))
 add-result-2 : tie.Need-add-result-2
 add-result-2 c = omega (arith, allowed-range _ (c .before .pre .0))
 
-returns : tie.Need-returns
-unfolding columnAt
-returns c = passed _ _ _ (lt-ltb _ _ (c .if1 .taken))
-
-returns-2 : tie.Need-returns-2
-unfolding columnAt
-returns-2 c = refused _ _ _ (le-ltb _ _ (c .if1 .left))
-
 pub column-at-spec : {M : Type 1} → statement M
-column-at-spec = tie.close (tie.spec mul-result add-result mul-result-2 add-result-2 returns returns-2)
+unfolding columnAt
+column-at-spec = tie.close (tie.spec mul-result add-result mul-result-2 add-result-2 (λ c. search waysOut) (λ c. search waysOut))

@@ -10,6 +10,7 @@ use borrow.Author.Tests.{eqb-true, eq-eqb}
 use lib.Dec.{eqb}
 use lib.ListN.{length, replicate, length-replicate}
 use Rattle.base.specs.Laws.Tests.{passed}
+use Rattle.base.specs.Laws.WaysOut.{waysOut}
 use Rattle.layout.specs.declared.Refusal.{Refusal}
 use Rattle.layout.specs.declared.Asked.{Asked}
 use Rattle.layout.specs.declared.Asked.the-variants.{Yes, No}
@@ -32,6 +33,17 @@ if-yes refuse answer e = ap (λ q. ifYes refuse q answer) (sym e)
 
 pub if-no : {A : Type 0} (refuse : Refusal → A) (answer : A) {q : Asked} {r : Refusal} → q ≡ No r → refuse r ≡ ifYes refuse q answer
 if-no refuse answer e = ap (λ q. ifYes refuse q answer) (sym e)
+
+-- the same in the form that `search` takes: questions that a function asked, and the way out after them
+pub asked-yes : {A : Type 0} (refuse : Refusal → A) (told q : Asked) (x answer : A) → told ≡ q → told ≡ Yes → x ≡ answer
+    → x ≡ ifYes refuse q answer
+asked-yes refuse told q x answer e y h = h ∙ if-yes refuse answer (sym e ∙ y)
+
+pub asked-no : {A : Type 0} (refuse : Refusal → A) (told q : Asked) (r : Refusal) (x answer : A) → told ≡ q → told ≡ No r
+    → x ≡ refuse r → x ≡ ifYes refuse q answer
+asked-no refuse told q r x answer e n h = h ∙ if-no refuse answer (sym e ∙ n)
+
+pub ruleset asking = (waysOut, asked-yes, asked-no)
 
 -- a call that answered yes
 pub after-yes : (a : Asked) (made there u : List ℕ) → after a made there ≡ record { answer = Yes; batch = u } → (a ≡ Yes) × (u ≡ made)

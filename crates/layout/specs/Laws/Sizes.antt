@@ -10,7 +10,7 @@ use native.Mathlib.Omega.{arith}
 use borrow.Author.Tests.{eqb-true}
 use lib.Dec.{eqb, lit≤}
 use Rattle.base.specs.Lists.{All}
-use Rattle.base.specs.Laws.Lists.{below-at}
+use Rattle.base.specs.Laws.Lists.{_and_, below-at}
 use Rattle.layout.specs.Batch.{sizes, among, allowed, DEFAULT-CPI}
 
 pub among-each : (P : ℕ → Type 0) (xs : List ℕ) → All P xs → (n : ℕ) → among n xs ≡ true → P n
@@ -28,13 +28,15 @@ each-size P = among-each P sizes
 pub allowed-range : (cpi : ℕ) → allowed cpi ≡ true → (1 ≤ cpi) × (cpi ≤ 256)
 allowed-range =
     each-size (λ n. (1 ≤ n) × (n ≤ 256))
-    ((lit≤ tt, lit≤ tt), ((lit≤ tt, lit≤ tt), ((lit≤ tt, lit≤ tt), ((lit≤ tt, lit≤ tt), ((lit≤ tt, lit≤ tt), ((lit≤ tt, lit≤ tt), ((lit≤ tt, lit≤ tt), ((lit≤ tt, lit≤ tt), ((lit≤ tt, lit≤ tt), tt)))))))))
+    ((lit≤ tt, lit≤ tt) and (lit≤ tt, lit≤ tt) and (lit≤ tt, lit≤ tt) and (lit≤ tt, lit≤ tt) and (lit≤ tt, lit≤ tt)
+    and (lit≤ tt, lit≤ tt) and (lit≤ tt, lit≤ tt) and (lit≤ tt, lit≤ tt) and (lit≤ tt, lit≤ tt) and tt)
 
 -- a power of two, from 2 ^ 0 to 2 ^ 8
 pub allowed-power : (cpi : ℕ) → allowed cpi ≡ true → (k : ℕ) × ((k ≤ 8) × (cpi ≡ 2 ^ k))
 allowed-power =
     each-size (λ n. (k : ℕ) × ((k ≤ 8) × (n ≡ 2 ^ k)))
-    ((0, (lit≤ tt, refl)), ((1, (lit≤ tt, refl)), ((2, (lit≤ tt, refl)), ((3, (lit≤ tt, refl)), ((4, (lit≤ tt, refl)), ((5, (lit≤ tt, refl)), ((6, (lit≤ tt, refl)), ((7, (lit≤ tt, refl)), ((8, (lit≤ tt, refl)), tt)))))))))
+    ((0, (lit≤ tt, refl)) and (1, (lit≤ tt, refl)) and (2, (lit≤ tt, refl)) and (3, (lit≤ tt, refl)) and (4, (lit≤ tt, refl))
+    and (5, (lit≤ tt, refl)) and (6, (lit≤ tt, refl)) and (7, (lit≤ tt, refl)) and (8, (lit≤ tt, refl)) and tt)
 
 pub default-allowed : allowed DEFAULT-CPI ≡ true
 unfolding allowed

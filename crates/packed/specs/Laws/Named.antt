@@ -8,7 +8,7 @@ use Prim.Native.Nat.{ℕ, zero, suc, _+_, _*_, _/_, _%_, _≤_, _<_}
 use native.Mathlib.Decide.{ℕ-discrete, decLt}
 use native.Mathlib.Nat.{eq-or-lt-of-le, mod-lt, div-add-mod', div-lt-iff-lt-mul, le-div-iff-mul-le, mul-le-mul-right, zero-add, zero-mul, add-mul, mul-div-cancel}
 use native.Mathlib.Omega.{arith}
-use borrow.Author.Tests.{lt-ltb, le-ltb, eq-eqb, ne-eqb}
+use borrow.Author.Tests.{lt-ltb, le-ltb, eqb-true, eq-eqb, ne-eqb}
 use lib.Arith.{digits-lt}
 use lib.Bits.{bitOr}
 use lib.Dec.{eqb}
@@ -16,17 +16,19 @@ use lib.ListN.{length, getD}
 use lib.Seq.{ext-getD}
 use Rattle.base.specs.Lists.{from}
 use Rattle.base.specs.Laws.Cases.{no-true}
-use Rattle.base.specs.Laws.Tests.{passed, both}
+use Rattle.base.specs.Laws.Tests.{passed, refused, both}
 use Rattle.base.specs.Laws.From.{length-from, getD-from}
 use Rattle.base.specs.Laws.Compared.{or-none}
 use Rattle.field.specs.Gf.{isBit}
-use Rattle.layout.specs.declared.Asked.the-variants.{Yes}
-use Rattle.layout.specs.Batch.{batchAsked}
-use Rattle.layout.specs.Laws.Questions.{if-yes, batch-yes, yes-batch}
+use Rattle.layout.specs.declared.Asked.the-variants.{Yes, No}
+use Rattle.layout.specs.Batch.{allowed, batchWords, batchAsked}
+use Rattle.layout.specs.Questions.{no as refusal}
+use Rattle.layout.specs.Laws.Questions.{answered, both-yes, if-yes, if-no, batch-yes, yes-batch}
 use Rattle.layout.specs.Laws.Sizes.{allowed-range}
 use Rattle.verdict.specs.Row.{elementAt}
 use Rattle.packed.specs.declared.Packing.{Packing}
-use Rattle.packed.specs.Packed.{PackCalled, answerOf, unpacked, packCalled, packedWord, namedWord, packedAt, packedNamed, bitsFrom, namedBits}
+use Rattle.packed.specs.declared.Packing.the-variants.{Refused}
+use Rattle.packed.specs.Packed.{packAsked, PackCalled, answerOf, unpacked, packCalled, packedWord, namedWord, packedAt, packedNamed, bitsFrom, namedBits}
 use Rattle.packed.specs.Seen.{BitAt}
 use Rattle.packed.specs.Columns.{BitsIn}
 use Rattle.packed.specs.Ranges.{RangeIn, Ranged}
@@ -143,9 +145,27 @@ one-named {bad = r} {batch = b} {before = p} {after = q} e h = subst (λ (n : �
 
 -- ---- the call
 
-module _ (cpi : ℕ) (batch out : List ℕ) (asked : batchAsked cpi (length batch) ≡ Yes) (room : length out ≡ 32 * cpi) where
-  pub named-in : NamedIn cpi batch out
-  named-in = let y = batch-yes cpi (length batch) asked in record { size = y .0; words = y .1; room = room }
+module _ (cpi : ℕ) (batch out : List ℕ) where
+  pub asked-yes-in : packAsked cpi (length batch) (length out) ≡ Yes → NamedIn cpi batch out
+  unfolding packAsked
+  asked-yes-in e =
+      let y = both-yes (batchAsked cpi (length batch)) _ e in let b = batch-yes cpi (length batch) (y .0) in
+      let r = answered (eqb (length out) (32 * cpi)) Yes (refusal 18 0) (y .1) in
+      record { size = b .0; words = b .1; room = eqb-true (length out) (32 * cpi) (r .0) }
+
+  in-asked-yes : NamedIn cpi batch out → packAsked cpi (length batch) (length out) ≡ Yes
+  unfolding packAsked
+  in-asked-yes h =
+      sym (passed _ _ _ (eq-eqb (length out) (32 * cpi) (h .room)) ∙ if-yes No _ (yes-batch cpi (length batch) (h .size) (h .words)))
+
+  -- any other room is refused with 18, and what is there stays
+  pub room-refused : allowed cpi ≡ true → length batch ≡ batchWords cpi → (length out ≡ 32 * cpi → ⊥)
+      → packCalled cpi batch out ≡ record { answer = Refused (record { number = 18; place = 0 }); out = out }
+  unfolding packCalled packAsked
+  room-refused size words other =
+      let first = if-yes No (cond (eqb (length out) (32 * cpi)) Yes (No (refusal 18 0))) (yes-batch cpi (length batch) size words) in
+      let asked = refused _ Yes (No (refusal 18 0)) (ne-eqb (length out) (32 * cpi) other) ∙ first in
+      sym (if-no (unpacked out) (record { answer = answerOf (namedBits cpi batch); out = packedNamed cpi batch out }) (sym asked))
 
   none-bad : {after : List ℕ} (bad : ℕ) → Named cpi batch out after bad → eqb bad 0 ≡ namedBits cpi batch
   none-bad bad n = go (ℕ-discrete bad 0)
@@ -154,19 +174,18 @@ module _ (cpi : ℕ) (batch out : List ℕ) (asked : batchAsked cpi (length batc
       go (yes e) = eq-eqb bad 0 e ∙ sym (n .bits .0 e)
       go (no f) = ne-eqb bad 0 f ∙ sym (no-true (namedBits cpi batch) (λ e. f (n .bits .1 e)))
 
-  pub called-named : {after : List ℕ} {bad : ℕ} → Named cpi batch out after bad → {p : Packing} → p ≡ answerOf (eqb bad 0)
-      → _≡_ {A = PackCalled} (record { answer = p; out = after }) (packCalled cpi batch out)
+  pub called-named : NamedIn cpi batch out → {after : List ℕ} {bad : ℕ} → Named cpi batch out after bad → {p : Packing}
+      → p ≡ answerOf (eqb bad 0) → _≡_ {A = PackCalled} (record { answer = p; out = after }) (packCalled cpi batch out)
   unfolding packCalled
-  called-named {after} {bad} n e =
+  called-named h {after} {bad} n e =
       ap₂ (λ (a : Packing) (o : List ℕ). record { answer = a; out = o }) (e ∙ ap answerOf (none-bad bad n))
-      (named-out cpi batch out after bad room n) ∙ passed _ _ _ (eq-eqb (length out) (32 * cpi) room) ∙ if-yes (unpacked out) _ asked
+      (named-out cpi batch out after bad (h .room) n) ∙ if-yes (unpacked out) _ (in-asked-yes h)
 
--- what the call says, read back where the questions are passed
-pub called-is : (cpi : ℕ) (batch out : List ℕ) → NamedIn cpi batch out → {a : Packing} {after : List ℕ}
-    → _≡_ {A = PackCalled} (record { answer = a; out = after }) (packCalled cpi batch out)
-    → (a ≡ answerOf (namedBits cpi batch)) × (after ≡ packedNamed cpi batch out)
-unfolding packCalled
-called-is cpi batch out h e =
-    let asked = yes-batch cpi (length batch) (h .size) (h .words) in
-    let f = e ∙ sym (passed _ _ _ (eq-eqb (length out) (32 * cpi) (h .room)) ∙ if-yes (unpacked out) _ asked) in
-    (ap (λ (q : PackCalled). q .answer) f, ap (λ (q : PackCalled). q .out) f)
+  -- what the call says, read back where the questions are passed
+  pub called-is : NamedIn cpi batch out → {a : Packing} {after : List ℕ}
+      → _≡_ {A = PackCalled} (record { answer = a; out = after }) (packCalled cpi batch out)
+      → (a ≡ answerOf (namedBits cpi batch)) × (after ≡ packedNamed cpi batch out)
+  unfolding packCalled
+  called-is h e =
+      let f = e ∙ sym (if-yes (unpacked out) _ (in-asked-yes h)) in
+      (ap (λ (q : PackCalled). q .answer) f, ap (λ (q : PackCalled). q .out) f)

@@ -3,7 +3,7 @@
 use mathlib.Core.Path.{_≡_, ap, ap₂, subst, _∙_}
 use mathlib.Core.Logic.{_↔_}
 use mathlib.Core.List.{List}
-use Prim.Native.Nat.{ℕ, zero, suc, _+_, _*_, _-_, _%_, _^_, _≤_, _<_}
+use Prim.Native.Nat.{ℕ, zero, suc, _+_, _*_, _-_, _/_, _%_, _^_, _≤_, _<_}
 use native.Mathlib.Omega.{arith}
 use lib.Bits.{bitOr}
 use lib.ListN.{length, getD, set, length-set}
@@ -16,6 +16,7 @@ use Rattle.packed.specs.Ranges.{Ranged}
 use Rattle.packed.specs.One.{lowFrom, rowSum, BitsFrom}
 use Rattle.packed.specs.Laws.Stacked.{again, alone, four-parts, stacked-same}
 use Rattle.packed.specs.Laws.Ranges.{more-range}
+use Rattle.packed.specs.Laws.Seen.{Seen, seen-next, seen-bits}
 
 -- what four parts are: each is m columns on, and is right modulo 2^64
 abbrev Quarter : List ℕ → ℕ → ℕ → ℕ → Type 0
@@ -48,13 +49,27 @@ four-words b i {p = p} {q = q} {s = s} {t = t} ep eq es et e =
     (e ∙ ap₂ (λ (x y : ℕ). pushedFour 1 x y s t) ep eq ∙ ap₂ (λ (x y : ℕ). pushedFour 1 (getD b i 0) (getD b (i + 2) 0) x y) es et)
 
 -- four sums of m columns each
-pub four-sums : (b : List ℕ) (i m : ℕ) {r p q s t : ℕ} → p ≡ rowSum b i m → q ≡ rowSum b (i + 2 * m) m → s ≡ rowSum b (i + 2 * (m + m)) m
-    → t ≡ rowSum b (i + 2 * (m + m + m)) m → r ≡ pushedFour m p q s t → r ≡ rowSum b i (m + (m + (m + m)))
-four-sums b i m ep eq es et e =
+pub four-sums : (m : ℕ) (b : List ℕ) (i : ℕ) {r p q s t : ℕ} → p ≡ rowSum b i m → q ≡ rowSum b (i + 2 * m) m
+    → s ≡ rowSum b (i + 2 * (m + m)) m → t ≡ rowSum b (i + 2 * (m + m + m)) m → r ≡ pushedFour m p q s t
+    → r ≡ rowSum b i (m + (m + (m + m)))
+four-sums m b i ep eq es et e =
     e ∙ of-four b i m _ _ _ _ (summed i ep) (summed (i + 2 * m) eq) (summed (i + 2 * (m + m)) es) (summed (i + 2 * (m + m + m)) et)
   where
     summed : (j : ℕ) {w : ℕ} → w ≡ rowSum b j m → Quarter b j m w
     summed j h = again (stacked (lowFrom b j) 0 m) h
+
+-- the or of the words of n elements from word i on
+abbrev pub SeenFrom : List ℕ → ℕ → ℕ → ℕ → ℕ → Type 0
+SeenFrom b i n low high = Seen b (λ (x : ℕ). i + 2 * x) n low high
+
+pub seen-turn : (b : List ℕ) (i n low high x y : ℕ) → x ≡ getD b (i + 2 * n) 0 → y ≡ getD b (i + 2 * n + 1) 0 → SeenFrom b i n low high
+    → SeenFrom b i (n + 1) (bitOr low x) (bitOr high y)
+seen-turn b i n low high x y e f s = seen-next b (λ (x : ℕ). i + 2 * x) n low high e f s
+
+pub seen-all : (b : List ℕ) (i n low high : ℕ) → n ≤ 64 → 64 ≤ n → SeenFrom b i n low high → (bitOr (low / 2) high ≡ 0) ↔ BitsFrom b i
+seen-all b i n low high l m s =
+    let e : n ≡ 64 = omega arith in
+    seen-bits b (λ (x : ℕ). i + 2 * x) 64 low high (subst (λ (k : ℕ). SeenFrom b i k low high) e s)
 
 pub word-is : (b : List ℕ) (k : ℕ) → rowSum b (128 * k) 64 ≡ packedWord 1 b 0 k
 unfolding packedWord
@@ -68,11 +83,11 @@ bits-are b k = (
   λ h x l. subst (BitAt b) (omega arith) (h (64 * k + x) 0 (omega arith) (omega arith) (omega arith)),
 )
 
-pub next-row : (b : List ℕ) (first k : ℕ) (before now : List ℕ) (bad r : ℕ) {w : ℕ} → first ≤ k → k < 32 → length before ≡ 32
-    → Ranged 1 b first k before now bad
+pub next-row : (b : List ℕ) (first k last : ℕ) (before now : List ℕ) (bad r : ℕ) {w : ℕ} → first ≤ k → k < last → last ≤ 32
+    → length before ≡ 32 → Ranged 1 b first k before now bad
     → w ≡ rowSum b (128 * k) 64 → ((r ≡ 0) ↔ BitsFrom b (128 * k)) → Ranged 1 b first (k + 1) before (set now k w) (bitOr bad r)
-next-row b first k before now bad r {w} o l s h e t =
-    more-range 1 b first k before now (set now k w) bad r o l h (length-set now k w) here
+next-row b first k last before now bad r {w} o l top s h e t =
+    more-range 1 b first k before now (set now k w) bad r o (omega arith) h (length-set now k w) here
     other
     (λ z. bits-are b k .0 (t .0 z), λ g. t .1 (bits-are b k .1 g))
   where

@@ -42,6 +42,12 @@ cleared n {acc} e d =
       | no l ↦ List·getD-eq-default (replicate n 0) 0 (omega (arith, length-replicate {A = ℕ} n 0))
     ]
 
+-- the loop's end: all words to `last` are passed
+pub range-ends : (cpi : ℕ) (batch : List ℕ) (first k last : ℕ) (before after : List ℕ) (bad : ℕ) → k ≤ last → last ≤ k
+    → Ranged cpi batch first k before after bad → Ranged cpi batch first last before after bad
+range-ends cpi batch first k last before after bad l m h =
+    let e : k ≡ last = omega arith in subst (λ (n : ℕ). Ranged cpi batch first n before after bad) e h
+
 pub no-range : (cpi : ℕ) (batch : List ℕ) (first : ℕ) (out : List ℕ) → Ranged cpi batch first first out out 0
 no-range cpi batch first out =
     record {

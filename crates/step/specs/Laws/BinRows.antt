@@ -8,7 +8,7 @@ use mathlib.Core.List.{[], _∷_}
 use Prim.Native.Nat.{ℕ, _+_}
 use Rattle.base.specs.Lists.{All, from}
 use Rattle.base.specs.Bits.{_⊻_}
-use Rattle.base.specs.Laws.Lists.{all-swap}
+use Rattle.base.specs.Laws.Lists.{_and_, all-swap}
 use Rattle.base.specs.Laws.Cases.{xor-false, xor-two, xor-self, xor-cancel}
 use Rattle.layout.specs.Columns.{ONE-COL, RD, ALU, IS-LOAD, IS-STORE, HALT, RAM-ADDR, OPSYS, ZE16, ZE8}
 use Rattle.circuit.specs.Rows.{Sides}
@@ -34,8 +34,10 @@ module _ (b : ℕ → Bool) (one : b ONE-COL ≡ true) where
   pub extension-row : (x k : ℕ) → Holds b (extensionRow x k) ↔ (b x ≡ true → b (RD + k) ≡ false)
   unfolding lacks sumBits
   extension-row x k =
-      let g = gate (b x ⊻ false) (b (RD + k) ⊻ false) in
-      (λ h e. sym (xor-false (b (RD + k))) ∙ g .0 h (xor-false (b x) ∙ e), λ h. g .1 (λ e. xor-false (b (RD + k)) ∙ h (sym (xor-false (b x)) ∙ e)))
+      let g = gate (b x ⊻ false) (b (RD + k) ⊻ false) in (
+        λ h e. sym (xor-false (b (RD + k))) ∙ g .0 h (xor-false (b x) ∙ e),
+        λ h. g .1 (λ e. xor-false (b (RD + k)) ∙ h (sym (xor-false (b x)) ∙ e)),
+      )
 
   -- the two halt rows are one
   two : (x y o : Bool) → o ≡ true
@@ -67,11 +69,12 @@ unfolding binFamilies beforeHalt afterHalt
 bin-parts P = (
   λ h. let lanes = h .1 .1 .1 in let gates = lanes .1 .1 in let chains = gates .1 .1 .1 .1 .1 in
       record {
-        determine = (h .0, (h .1 .0, (lanes .0, (lanes .1 .0, (gates .0, (gates .1 .0, (gates .1 .1 .0, chains)))))));
+        determine = h .0 and h .1 .0 and lanes .0 and lanes .1 .0 and gates .0 and gates .1 .0 and gates .1 .1 .0 and chains;
         address = h .1 .1 .0;
         extend16 = gates .1 .1 .1 .0;
         extend8 = gates .1 .1 .1 .1 .0;
       },
   λ p. let h = p .determine in let gates = h .1 .1 .1 .1 in
-      (h .0, (h .1 .0, (p .address, (h .1 .1 .0, (h .1 .1 .1 .0, (gates .0, (gates .1 .0, (gates .1 .1 .0, (p .extend16, (p .extend8, gates .1 .1 .1)))))))))),
+      h .0 and h .1 .0 and p .address and h .1 .1 .0 and h .1 .1 .1 .0 and gates .0 and gates .1 .0 and gates .1 .1 .0 and p .extend16
+      and p .extend8 and gates .1 .1 .1,
 )

@@ -186,11 +186,29 @@ pub each-funct3 : EachFunct3
 unfolding branchHolds signed
 each-funct3 =
     record {
-      beq = (by-bit 0 7 7 (omega arith) (omega arith) (omega arith) true refl, by-bit 0 7 8 (omega arith) (omega arith) (omega arith) false refl);
-      bne = (by-bit 1 7 8 (omega arith) (omega arith) (omega arith) true refl, by-bit 1 7 7 (omega arith) (omega arith) (omega arith) false refl);
-      blt = (by-bit 4 ones 1 (omega arith) (omega arith) (omega arith) true refl, by-bit 4 1 ones (omega arith) (omega arith) (omega arith) false refl);
-      bge = (by-bit 5 1 ones (omega arith) (omega arith) (omega arith) true refl, by-bit 5 ones 1 (omega arith) (omega arith) (omega arith) false refl);
-      bltu = (by-bit 6 1 ones (omega arith) (omega arith) (omega arith) true refl, by-bit 6 ones 1 (omega arith) (omega arith) (omega arith) false refl);
-      bgeu = (by-bit 7 ones 1 (omega arith) (omega arith) (omega arith) true refl, by-bit 7 1 ones (omega arith) (omega arith) (omega arith) false refl);
+      beq = (
+        by-bit 0 7 7 (omega arith) (omega arith) (omega arith) true refl,
+        by-bit 0 7 8 (omega arith) (omega arith) (omega arith) false refl,
+      );
+      bne = (
+        by-bit 1 7 8 (omega arith) (omega arith) (omega arith) true refl,
+        by-bit 1 7 7 (omega arith) (omega arith) (omega arith) false refl,
+      );
+      blt = (
+        by-bit 4 ones 1 (omega arith) (omega arith) (omega arith) true refl,
+        by-bit 4 1 ones (omega arith) (omega arith) (omega arith) false refl,
+      );
+      bge = (
+        by-bit 5 1 ones (omega arith) (omega arith) (omega arith) true refl,
+        by-bit 5 ones 1 (omega arith) (omega arith) (omega arith) false refl,
+      );
+      bltu = (
+        by-bit 6 1 ones (omega arith) (omega arith) (omega arith) true refl,
+        by-bit 6 ones 1 (omega arith) (omega arith) (omega arith) false refl,
+      );
+      bgeu = (
+        by-bit 7 ones 1 (omega arith) (omega arith) (omega arith) true refl,
+        by-bit 7 1 ones (omega arith) (omega arith) (omega arith) false refl,
+      );
       neither = λ x y lx ly. (by-bit 2 x y (omega arith) lx ly false refl, by-bit 3 x y (omega arith) lx ly false refl);
     }

@@ -114,8 +114,10 @@ module _ (z : ℕ → Gf128) (b : ℕ → Bool) (o : OfBits z b) where
       let k = all-bin (joined (determiningBin haltRows)) determining-over-bits in
       let j = all-joined (Holds b) (determiningBin haltRows) in
       let i = all-joined (Holds b) determiningFamilies in
-      let n = one-halt b (o .one) in
-      (λ h. i .1 ((first-carry .0 (h .1), tt), n .0 (j .0 (k .0 (h .0)))), λ h. (k .1 (j .1 (n .1 (i .0 h .1))), first-carry .1 (i .0 h .0 .0)))
+      let n = one-halt b (o .one) in (
+        λ h. i .1 ((first-carry .0 (h .1), tt), n .0 (j .0 (k .0 (h .0)))),
+        λ h. (k .1 (j .1 (n .1 (i .0 h .1))), first-carry .1 (i .0 h .0 .0)),
+      )
 
   pub rows-split : All Met (joined binFamilies) → All Met (joined fldFamilies) → All (Holds b) determining × Others b (z (ONE-COL + 1))
   unfolding determining fldFamilies

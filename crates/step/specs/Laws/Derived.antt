@@ -54,7 +54,11 @@ tally-same : (q : ℕ → Bool) (k : Bool) (n x : ℕ) → ((i : ℕ) → x ≤ 
 unfolding tally
 tally-same q k zero x h = omega arith
 tally-same q k (suc n) x h =
-    omega (arith, ap (λ (b : Bool). digit b) (h x (omega arith) (omega arith)), tally-same q k n (suc x) (λ i l m. h i (omega arith) (omega arith)))
+    omega (
+      arith,
+      ap (λ (b : Bool). digit b) (h x (omega arith) (omega arith)),
+      tally-same q k n (suc x) (λ i l m. h i (omega arith) (omega arith)),
+    )
 
 module _ (cpi : ℕ) (some : 0 < cpi) where
   in-block : (c i : ℕ) → c * cpi ≤ i → i < c * cpi + cpi → i / cpi ≡ c

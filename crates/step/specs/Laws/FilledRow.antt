@@ -207,7 +207,8 @@ module _ (cs : List ℕ) (n : ℕ) (row : List ℕ) (h : Holding cs n row) (t : 
     pub output-fails : has cs IS-ARITH ≡ false → opcode (has cs) ≡ 0x73 → (n ≡ word (has cs) RD 64 → ⊥) → Gives row (Failed Fld 3 487)
     unfolding derived plain named
     output-fails no-sum system differ =
-        fld-fails beforeOutput outputRow output-at (write-holds, (sum-holds, (bin-row z b (of .bits) firstCarryRow refl .1 (families .0 .0), tt)))
+        fld-fails beforeOutput outputRow output-at
+        (write-holds, (sum-holds, (bin-row z b (of .bits) firstCarryRow refl .1 (families .0 .0), tt)))
         (no-true _ (λ e. differ (words-injective _ _ _ _ (sym public ∙ shown e) .0 ∙ same-word b (has cs) given RD 64 refl)))
       where
         sum-holds : holds z sumRow ≡ true

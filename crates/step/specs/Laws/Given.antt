@@ -69,7 +69,8 @@ module _ (y z : ℕ → Bool) (h : SameGiven y z) where
         load-word = λ e. carried (same-word RD 64 refl) (same-word LOAD-VAL 64 refl) (s .load-word (h LD-WORD refl ∙ e));
         load-byte = λ e. carried (same-word RD 8 refl) lane-off (s .load-byte (h LD-BYTE refl ∙ e));
         load-half = λ e.
-            let k = s .load-half (h LD-HALF refl ∙ e) in (carried (same-word RD 8 refl) lane-off (k .0), carried (same-word (RD + 8) 8 refl) lane-next (k .1));
+            let k = s .load-half (h LD-HALF refl ∙ e) in
+            (carried (same-word RD 8 refl) lane-off (k .0), carried (same-word (RD + 8) 8 refl) lane-next (k .1));
         upper-zero = λ e w. sym (same-word (RD + 16) 48 refl) ∙ s .upper-zero (h IS-LOAD refl ∙ e) (h LD-WORD refl ∙ w);
         second-zero = λ e w m. sym (same-word (RD + 8) 8 refl) ∙ s .second-zero (h IS-LOAD refl ∙ e) (h LD-WORD refl ∙ w)
             (h LD-HALF refl ∙ m);

@@ -4,7 +4,7 @@
 use mathlib.Core.Path.{sym, ap, subst, _∙_}
 use borrow.Author.Needs.{needs}
 use denote.Ref.{now}
-use Rattle.layout.specs.Laws.Questions.{if-yes, if-no}
+use Rattle.layout.specs.Laws.Questions.{if-yes, asking}
 use Rattle.verdict.specs.declared.ApplyAnswer.the-variants.{Refused}
 use Rattle.verdict.specs.Apply.{RowFound, appliedAt}
 use Rattle.verdict.specs.Laws.Apply.{row-found}
@@ -16,9 +16,6 @@ apply-row-requires c κs =
     let t = c .before in let v = t .before .before in let p = v .before .before .before .pre in
     (p .0, (p .1, subst (RowFound _) (sym (c .find-row .ensures)) (row-found _ _ _ (sym (v .validate .ensures) ∙ t .enum-told .given .1))))
 
-returns : tie.Need-returns
-returns c = let r = c .before in if-no Refused _ (sym (r .before .before .validate .ensures) ∙ r .r .given .1)
-
 returns-2 : tie.Need-returns-2
 returns-2 c =
     let t = c .before .before in let v = t .before .before in let a = v .before .before .before .args in
@@ -28,5 +25,5 @@ returns-2 c =
 pub apply-listed-spec : {M : Type 1} → statement M
 apply-listed-spec =
     tie.close
-    (tie.spec (λ c κs. search needs) (λ c. search needs) (λ c. search needs) (λ c κs. search needs) apply-row-requires returns
-    returns-2)
+    (tie.spec (λ c κs. search needs) (λ c. search needs) (λ c. search needs) (λ c κs. search needs) apply-row-requires
+    (λ c. search asking) returns-2)

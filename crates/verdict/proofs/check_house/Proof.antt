@@ -3,7 +3,7 @@
 use mathlib.Core.Path.{sym, ap, _∙_}
 use borrow.Author.Needs.{needs}
 use denote.Ref.{now}
-use Rattle.layout.specs.Laws.Questions.{if-yes, if-no, batch-yes}
+use Rattle.layout.specs.Laws.Questions.{if-yes, batch-yes, asking}
 use Rattle.circuit.specs.Laws.House.{in-order}
 use Rattle.circuit.specs.Valid.{validated}
 use Rattle.verdict.specs.declared.CheckAnswer.the-variants.{Judged, Refused}
@@ -17,10 +17,6 @@ walk-requires c κs =
     let yes = batch-yes _ _ (sym (t .before .before .ask-batch .ensures) ∙ t .enum-told .given .1) in
     (yes .0, (yes .1, ap validated (h .build-circuit .ensures) ∙ in-order))
 
-returns : tie.Need-returns
-unfolding houseChecked
-returns c = let r = c .before in if-no Refused _ (sym (r .before .before .ask-batch .ensures) ∙ r .r .given .1)
-
 returns-2 : tie.Need-returns-2
 unfolding houseChecked
 returns-2 c =
@@ -29,7 +25,8 @@ returns-2 c =
     ∙ if-yes Refused _ (sym (m .ask-batch .ensures) ∙ t .enum-told .given .1)
 
 pub check-house-spec : {M : Type 1} → statement M
+unfolding houseChecked
 check-house-spec =
     tie.close
     (tie.spec (λ c κs. search needs) (λ c. search needs) (λ c. search needs) (λ c κs. search needs) (λ c. search needs)
-    walk-requires returns returns-2)
+    walk-requires (λ c. search asking) returns-2)

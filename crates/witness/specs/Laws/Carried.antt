@@ -1,6 +1,6 @@
 -- The 18 words of the made row have the bits that the table says, so that written by words the row is the table's.
 -- Assumes nothing.
-use mathlib.Core.Path.{_≡_, refl, sym, ap, fun-ext, _∙_}
+use mathlib.Core.Path.{_≡_, refl, sym, ap, ap₂, fun-ext, _∙_}
 use mathlib.Core.Bool.{Bool, true, false}
 use mathlib.Core.List.{List, [], _∷_}
 use Prim.Native.Nat.{ℕ, _+_, _*_, _/_, _%_, _^_, _<_}
@@ -9,15 +9,17 @@ use Rattle.base.specs.Bits.{digit, val, bitAt}
 use Rattle.base.specs.Lists.{from}
 use Rattle.base.specs.Fields.{flags, pack}
 use Rattle.base.specs.Blocks.{columnBit}
+use Rattle.base.specs.Laws.Lists.{_and_}
+use Rattle.base.specs.Laws.Cases.{xor-true, either, two-of-three}
 use Rattle.base.specs.Laws.Values.{digit-lt}
 use Rattle.base.specs.Laws.Bits.{bit-digit}
 use Rattle.layout.specs.Columns.{FLAGS, FETCH, EQA, OPSYS}
 use Rattle.layout.specs.Batch.{ROW-WORDS}
+use Rattle.filler.specs.declared.bits.Flags.{Flags}
 use Rattle.filler.specs.declared.derive.DerivedWords.{DerivedWords}
 use Rattle.filler.specs.Derive.{carryWord, opcodeRun, laneWord, compareWord, branchWord}
-use Rattle.filler.specs.Words.{derivedWords}
-use Rattle.filler.specs.Laws.Holds.{_and_}
-use Rattle.filler.specs.Laws.ByBit.{two-of-three, carry-bits, run-bits, opcode-field, hot-field, pair-field, gated-field, one-of-two, xor-true, either}
+use Rattle.filler.specs.Words.{gateFlags, topBitsOf, derivedWords}
+use Rattle.filler.specs.Laws.Promise.{carry-bits, run-bits, opcode-field, hot-field, pair-field, gated-field, one-of-two}
 use Rattle.witness.specs.declared.records.CycleRecord.{CycleRecord}
 use Rattle.witness.specs.declared.records.RomRow.{RomRow}
 use Rattle.witness.specs.Table.{subtracts, secondOperand, aluOf, carryInto, allTo, zeroTo, alikeTo, lane, nextLane, op, f3, flagGroup, busGroup, laneGroup, branchGroup, table}
@@ -65,27 +67,21 @@ module _ (r : CycleRecord) (m : RomRow) where
   flag : (i : ℕ) (b : Bool) → i < 64 → columnBit (flagGroup r m) (FLAGS + i) ≡ bitAt (digit b) 0 → bitAt (flagsWord r) i ≡ b
   flag i b l e = flags-carried i l ∙ e ∙ bit-digit b
 
-  we-read : bitAt (flagsWord r) 1 ≡ r .we
-  unfolding columnBit
-  we-read = flag 1 (r .we) (omega arith) refl
+  abbrev gates : Flags
+  gates = record { write = r .we; load = r .«is_load»; byte = r .«ld_byte»; half = r .«ld_half»; whole = r .«ld_word» }
 
-  load-read : bitAt (flagsWord r) 2 ≡ r .«is_load»
+  gates-read : gateFlags (flagsWord r) ≡ gates
   unfolding columnBit
-  load-read = flag 2 (r .«is_load») (omega arith) refl
+  gates-read =
+      cc (
+        flag 1 (r .we) (omega arith) refl,
+        flag 2 (r .«is_load») (omega arith) refl,
+        flag 8 (r .«ld_byte») (omega arith) refl,
+        flag 9 (r .«ld_half») (omega arith) refl,
+        flag 10 (r .«ld_word») (omega arith) refl,
+      )
 
-  byte-read : bitAt (flagsWord r) 8 ≡ r .«ld_byte»
-  unfolding columnBit
-  byte-read = flag 8 (r .«ld_byte») (omega arith) refl
-
-  half-read : bitAt (flagsWord r) 9 ≡ r .«ld_half»
-  unfolding columnBit
-  half-read = flag 9 (r .«ld_half») (omega arith) refl
-
-  word-read : bitAt (flagsWord r) 10 ≡ r .«ld_word»
-  unfolding columnBit
-  word-read = flag 10 (r .«ld_word») (omega arith) refl
-
-  pub subtract-read : bitAt (flagsWord r) 0 ≡ subtracts r
+  subtract-read : bitAt (flagsWord r) 0 ≡ subtracts r
   unfolding columnBit
   subtract-read = flag 0 (subtracts r) (omega arith) refl
 
@@ -139,7 +135,7 @@ module _ (r : CycleRecord) (m : RomRow) where
       let ca = gated-field x x-lt (r .«ld_byte») in
       let ch = gated-field x x-lt (r .«ld_half») in
       let ch2 = gated-field y y-lt (r .«ld_half») in
-      rw (lane-read, we-read, load-read, byte-read, half-read, word-read) (simp (digit-cut, eqa, pa, eqb, pb, ca, ch, ch2) (omega arith))
+      ap₂ laneWord lane-read gates-read ∙ simp (digit-cut, eqa, pa, eqb, pb, ca, ch, ch2) (omega arith)
 
   -- ---- of a record whose words are words
 
@@ -162,6 +158,7 @@ module _ (r : CycleRecord) (m : RomRow) where
     branches-are : derivedOf .branches ≡ packed OPSYS (branchGroup r m)
     unfolding branchWord compareWord packed
     branches-are =
+        let tops = topBitsOf (givenWords r m) (derivedOf .carry) (derivedOf .zeros) in
         let x = f3 r m in
         let x-lt : x < 8 = omega arith in
         let opsys = chain-field 0x73 (omega arith) in
@@ -171,7 +168,8 @@ module _ (r : CycleRecord) (m : RomRow) where
         let ceq = one-of-two x x-lt 0 1 refl in
         let clt = one-of-two x x-lt 4 5 refl in
         let clu = one-of-two x x-lt 6 7 refl in
-        rw (op-read, f3-read, load-read, half-read, word-read, carry-is 63 (omega arith), zeros-are 63 (omega arith))
+        ap (λ (f : Flags). branchWord (busWord m % 2 ^ 7) (busWord m / 2 ^ 25 % 2 ^ 3) tops f) gates-read
+        ∙ rw (op-read, f3-read, carry-is 63 (omega arith), zeros-are 63 (omega arith))
         (simp (digit-cut, opsys, opbr, eqfm, eqf, xor-true, either, ceq, clt, clu) (omega arith))
 
     pub carries-each : CarriesEach 0 (table r m) (rowWords r m)

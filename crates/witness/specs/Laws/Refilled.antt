@@ -1,41 +1,32 @@
 -- Filling a made row changes nothing where the record's halt and taken are what the filler would write: it reads the given words back, and
 -- the derived ones stand there already.
 -- Assumes nothing.
-use mathlib.Core.Path.{_≡_, refl, sym, ap, ap₂, _∙_}
+use mathlib.Core.Path.{_≡_, refl, sym, ap, ap₂, subst, _∙_}
 use mathlib.Core.Bool.{Bool, false, not, _&&_}
 use mathlib.Core.List.{List}
 use Prim.Native.Nat.{ℕ, _+_, _*_, _/_, _%_, _^_, _≤_, _<_}
 use native.Mathlib.Omega.{arith}
-use lib.Dec.{eqb}
 use lib.ListN.{getD}
 use Rattle.base.specs.Lists.{All}
 use Rattle.base.specs.Bits.{bitAt}
 use Rattle.base.specs.Blocks.{block}
-use Rattle.base.specs.Laws.Values.{val-same}
+use Rattle.base.specs.Laws.Lists.{_and_}
 use Rattle.base.specs.Laws.First.{first-none}
-use Rattle.base.specs.Laws.Numbers.{val-bits}
-use Rattle.field.specs.declared.Gf128.{Gf128}
-use Rattle.field.specs.Gf.{low, ofBit}
-use Rattle.field.specs.Gf.Bits.{low-bit}
+use Rattle.field.specs.Gf.{ofBit}
 use Rattle.layout.specs.declared.Asked.{Asked}
 use Rattle.layout.specs.declared.Asked.the-variants.{Yes}
 use Rattle.layout.specs.Columns.{HALT, TAKEN}
 use Rattle.layout.specs.Batch.{allowed}
 use Rattle.layout.specs.Questions.{after}
-use Rattle.layout.specs.Laws.Mapping.{witness-column}
-use Rattle.verdict.specs.Row.{elementAt, cycleOf, bitsOf}
+use Rattle.verdict.specs.Row.{elementAt}
 use Rattle.step.specs.Derived.{derivedIn}
 use Rattle.step.specs.Filling.{filled}
 use Rattle.step.specs.Fill.{faulty, called, Passed}
 use Rattle.step.specs.Laws.FillAnswers.{passed-all}
 use Rattle.filler.specs.declared.derive.GivenWords.{GivenWords}
-use Rattle.filler.specs.declared.derive.DerivedWords.{DerivedWords}
-use Rattle.filler.specs.Blocks.{putBlocks}
-use Rattle.filler.specs.Words.{wordAt, derivedWords, blocks, fillCycle, fillCycles}
-use Rattle.filler.specs.Laws.Blocks.{Written, written, blocks-again}
-use Rattle.filler.specs.Laws.Holds.{_and_}
-use Rattle.filler.specs.Laws.Cycle.{blocks-ordered}
-use Rattle.filler.specs.Laws.Cycles.{all-cycles}
+use Rattle.filler.specs.Blocks.{HoldsWord}
+use Rattle.filler.specs.Words.{wordAt, derivedWords, blocks}
+use Rattle.filler.specs.Laws.Promise.{read-back, filled-words, filled-keeps}
 use Rattle.witness.specs.declared.records.CycleRecord.{CycleRecord}
 use Rattle.witness.specs.declared.records.RomRow.{RomRow}
 use Rattle.witness.specs.Row.{madeRow}
@@ -52,9 +43,6 @@ module _ (r : CycleRecord) (m : RomRow) (public : List ℕ) (fit : Words r) wher
   abbrev given : GivenWords
   given = givenWords r m
 
-  abbrev derivedOf : DerivedWords
-  derivedOf = derivedWords given
-
   -- ---- the given words are read back
 
   -- column i of word j
@@ -66,14 +54,12 @@ module _ (r : CycleRecord) (m : RomRow) (public : List ℕ) (fit : Words r) wher
       ∙ ap (λ (b : Bool). ofBit b)
       (sym (words-bits r m fit (64 * j + i)) ∙ ap₂ (λ (w b : ℕ). bitAt (getD (rowWords r m) w 0) b) word-of bit-of)
 
-  read-back : (j : ℕ) → j < 32 → getD (rowWords r m) j 0 < 2 ^ 64 → wordAt 1 row 0 (64 * j) ≡ getD (rowWords r m) j 0
-  unfolding wordAt bitsOf cycleOf
-  read-back j l h =
-      val-same _ _ 64
-      (λ i k. ap (λ (x : Gf128). eqb (low x) 1)
-      (ap (elementAt row) (witness-column 1 (64 * j + i) 0 (omega arith) ∙ omega arith) ∙ at-word j i l k)
-      ∙ low-bit (bitAt (getD (rowWords r m) j 0) i))
-      ∙ val-bits 64 (getD (rowWords r m) j 0) h
+  -- a run of columns that is word j, or begins it
+  stands : (column j n : ℕ) → j < 32 → n ≤ 64 → column ≡ 64 * j → HoldsWord 1 0 row (block column n (getD (rowWords r m) j 0))
+  stands column j n l k e i h = ap (elementAt row) (omega arith) ∙ at-word j i l (omega arith)
+
+  word-back : (j : ℕ) → j < 32 → getD (rowWords r m) j 0 < 2 ^ 64 → wordAt 1 row 0 (64 * j) ≡ getD (rowWords r m) j 0
+  word-back j l h = read-back 1 0 row (64 * j) _ (omega arith) h (stands (64 * j) j 64 l (omega arith) refl)
 
   bus-lt : busWord m < 2 ^ 64
   unfolding busWord
@@ -82,47 +68,39 @@ module _ (r : CycleRecord) (m : RomRow) (public : List ℕ) (fit : Words r) wher
   given-back : filler.givenWords 1 row 0 ≡ given
   given-back =
       cc (
-        read-back 0 (omega arith) (fit .rs1),
-        read-back 1 (omega arith) (fit .rs2),
-        read-back 3 (omega arith) (fit .load),
-        read-back 5 (omega arith) (fit .first),
-        read-back 6 (omega arith) (second-lt r fit),
-        read-back 8 (omega arith) (alu-lt r fit),
-        read-back 12 (omega arith) (flags-lt r m),
-        read-back 13 (omega arith) bus-lt,
+        word-back 0 (omega arith) (fit .rs1),
+        word-back 1 (omega arith) (fit .rs2),
+        word-back 3 (omega arith) (fit .load),
+        word-back 5 (omega arith) (fit .first),
+        word-back 6 (omega arith) (second-lt r fit),
+        word-back 8 (omega arith) (alu-lt r fit),
+        word-back 12 (omega arith) (flags-lt r m),
+        word-back 13 (omega arith) bus-lt,
       )
 
   -- ---- where halt and taken are the filler's, every derived word stands there already
 
-  by-blocks : filled 1 row ≡ putBlocks 1 0 (blocks given derivedOf) row
-  unfolding fillCycles fillCycle
-  by-blocks =
-      sym (all-cycles 1 row (row-length r m public) (one-is r m public) (omega arith))
-      ∙ ap (λ (g : GivenWords). putBlocks 1 0 (blocks g (derivedWords g)) row) given-back
-
   first : 0 < 1
   first = omega arith
 
+  -- the filler's blocks in a batch of one cycle
+  abbrev Stand : List ℕ → GivenWords → Type 0
+  Stand batch g = All (HoldsWord 1 0 batch) (blocks g (derivedWords g))
+
   module _ (halts : elementAt (filled 1 row) HALT ≡ ofBit (r .«halted_latch»))
       (takes : elementAt (filled 1 row) TAKEN ≡ ofBit (r .«branch_taken»)) where
-    abbrev parts : All (Written 1 0 first (putBlocks 1 0 (blocks given derivedOf) row)) (blocks given derivedOf)
-    parts = written 1 0 first (blocks given derivedOf) 0 row (row-length r m public) (blocks-ordered given derivedOf)
-
-    -- a run of columns that is word j, or begins it
-    stands : (column j n : ℕ) → j < 32 → n ≤ 64 → column ≡ 64 * j → (i : ℕ) → i < n
-        → elementAt row ((column + i) * 1 + 0) ≡ ofBit (bitAt (getD (rowWords r m) j 0) i)
-    stands column j n l k e i h = ap (elementAt row) (omega arith) ∙ at-word j i l (omega arith)
+    parts : Stand (filled 1 row) given
+    parts = subst (Stand (filled 1 row)) given-back (filled-words 1 row (row-length r m public) (one-is r m public) 0 first)
 
     -- a flag that the filler writes as the record has it
     flag-stands : (column bit w : ℕ) (b : Bool) → bit < 64 → column ≡ 768 + bit → bitAt (flagsWord r) bit ≡ b
-        → elementAt (filled 1 row) column ≡ ofBit b
-        → Written 1 0 first (putBlocks 1 0 (blocks given derivedOf) row) (block column 1 w) → Written 1 0 first row (block column 1 w)
+        → elementAt (filled 1 row) column ≡ ofBit b → HoldsWord 1 0 (filled 1 row) (block column 1 w) → HoldsWord 1 0 row (block column 1 w)
     flag-stands column bit w b l e q h p i k =
         let here : (column + i) * 1 + 0 ≡ column = omega arith in
         ap (elementAt row) (here ∙ e) ∙ at-word 12 bit (omega arith) l ∙ ap (λ (x : Bool). ofBit x) q ∙ sym h
-        ∙ ap (λ (u : List ℕ). elementAt u column) by-blocks ∙ ap (elementAt (putBlocks 1 0 (blocks given derivedOf) row)) (sym here) ∙ p i k
+        ∙ ap (elementAt (filled 1 row)) (sym here) ∙ p i k
 
-    stand-already : All (Written 1 0 first row) (blocks given derivedOf)
+    stand-already : Stand row given
     stand-already =
         stands 448 7 64 (omega arith) (omega arith) refl
         and stands 576 9 64 (omega arith) (omega arith) refl
@@ -136,8 +114,11 @@ module _ (r : CycleRecord) (m : RomRow) (public : List ℕ) (fit : Words r) wher
         and tt
 
     keeps : filled 1 row ≡ row
-    keeps = by-blocks ∙ blocks-again 1 0 first (blocks given derivedOf) 0 row (row-length r m public)
-        (blocks-ordered given derivedOf) stand-already
+    keeps =
+        filled-keeps 1 row (row-length r m public) (one-is r m public)
+        (λ d l. let only : 0 ≡ d = omega arith in
+        subst (λ (t : ℕ). All (HoldsWord 1 t row) (blocks (filler.givenWords 1 row t) (derivedWords (filler.givenWords 1 row t)))) only
+        (subst (Stand row) (sym given-back) stand-already))
 
     not-faulty : (c : ℕ) → c < 2048 → faulty 1 row c ≡ false
     not-faulty c l = ap (λ (b : Bool). b && not (derivedIn 1 c)) (not-above r m public c l)

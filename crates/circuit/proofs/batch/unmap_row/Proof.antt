@@ -3,7 +3,7 @@
 -- Assumes nothing.
 use mathlib.Core.Path.{sym, ap, _∙_}
 use borrow.Author.Needs.{needs}
-use borrow.Author.Tests.{le-ltb, not-true, not-false}
+use borrow.Author.Tests.{le-ltb, not-false}
 use Prim.Native.Nat.{ℕ, _*_, _/_, _%_}
 use native.Mathlib.Omega.{arith}
 use Rattle.circuit.specs.declared.batch.CycleRowAnswer.the-variants.{Refused as NoRow}
@@ -13,13 +13,9 @@ use Rattle.circuit.specs.Found.{rowsACycle}
 use Rattle.circuit.specs.Laws.Search.{rows-some}
 use Rattle.circuit.specs.Batched.{unmappedRow}
 use Rattle.circuit.specs.Laws.BatchRows.{row-of, batch-rows-at-most}
+use Rattle.base.specs.Laws.WaysOut.{waysOut}
 use Rattle.circuit.proofs.batch.unmap_row.Statement.{statement}
 use Rattle.circuit.proofs.batch.unmap_row.Tie as tie
-
-returns : tie.Need-returns
-unfolding unmappedRow
-returns q =
-    let c = q .before in ap NoRow (q .refused .ensures) ∙ refused _ _ _ (sym (c .before .is-allowed .ensures) ∙ not-true _ (c .if1 .taken))
 
 mul-if2 : tie.Need-mul-if2
 mul-if2 c =
@@ -50,7 +46,8 @@ returns-3 c =
     ∙ sym (row-of (a .cpi) ok (a .relation) (a .batch-row) (omega (arith, ap (λ (n : ℕ). n * a .cpi) e, c .if2 .left)))
 
 pub unmap-row-spec : {M : Type 1} → statement M
+unfolding unmappedRow
 unmap-row-spec =
     tie.close
-    (tie.spec (λ c κs. search needs) (λ c κs. search needs) returns (λ c κs. search needs) mul-if2 (λ c κs. search needs)
-    returns-2 div-t8 rem-t10 returns-3)
+    (tie.spec (λ c κs. search needs) (λ c κs. search needs) (λ c. search waysOut) (λ c κs. search needs) mul-if2
+    (λ c κs. search needs) returns-2 div-t8 rem-t10 returns-3)

@@ -6,13 +6,13 @@ use Prim.Native.Nat.{ℕ, _+_, _≤_, _<_, _-_}
 use native.Mathlib.Numerals.{add-one}
 use native.Mathlib.Omega.{arith}
 use borrow.Author.Needs.{needs}
-use borrow.Author.Tests.{le-leb, lt-leb}
+use borrow.Author.Tests.{le-leb}
 use lib.ListN.{length, getD, drop, drop-of-length-le}
 use lib.Seq.{drop-cons}
-use Rattle.layout.specs.declared.Asked.the-variants.{No}
-use Rattle.base.specs.Laws.Tests.{passed, refused}
+use Rattle.base.specs.Laws.Tests.{passed}
 use Rattle.circuit.specs.declared.questions.Progress.{Progress}
 use Rattle.circuit.specs.Valid.{afterWord, onward, validFrom, validated}
+use Rattle.base.specs.Laws.WaysOut.{waysOut}
 use Rattle.circuit.proofs.questions.validate.Statement.{statement}
 use Rattle.circuit.proofs.questions.validate.Tie as tie
 
@@ -32,11 +32,6 @@ Inv-loop listing low₀ kind₀ i₀ low kind i = (i ≤ length listing) × (val
 
 abbrev μ-loop : tie.MeasureT-loop
 μ-loop listing low₀ kind₀ i₀ low kind i = length listing - i
-
-returns : tie.Need-returns Inv-loop μ-loop
-unfolding validated
-returns q =
-    let c = q .before in ap No (q .refused .ensures) ∙ refused _ _ _ (lt-leb _ _ (c .if1 .taken))
 
 loop-holds : tie.Need-loop-holds Inv-loop μ-loop
 loop-holds c = (omega arith, refl)
@@ -64,8 +59,9 @@ returns-3 c =
     ∙ t .inv .1 ∙ fits _ (c .before .before .if1 .left)
 
 pub validate-spec : {M : Type 1} → statement M
+unfolding validated
 validate-spec =
     tie.close
-    (tie.spec Inv-loop μ-loop (λ c κs. search needs) returns loop-holds (λ c. search needs) (λ c. search needs)
+    (tie.spec Inv-loop μ-loop (λ c κs. search needs) (λ c. search waysOut) loop-holds (λ c. search needs) (λ c. search needs)
     (λ c κs. search needs) (λ c. search needs) (λ c. search needs) returns-2 (λ c. search needs) (λ c. search needs) loop-again
     returns-3)

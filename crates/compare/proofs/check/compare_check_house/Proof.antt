@@ -1,7 +1,10 @@
--- The number of what the call gives.
+-- The number of what the call gives, either way.
+-- Assumes nothing.
 use borrow.Author.Needs.{needs}
 use Rattle.compare.proofs.check.compare_check_house.Statement.{statement}
 use Rattle.compare.proofs.check.compare_check_house.Tie as tie
 
 pub compare-check-house-spec : {M : Type 1} → statement M
-compare-check-house-spec = tie.close (tie.spec (λ c κs. search needs) (λ c κs. search needs) (λ c. cc))
+compare-check-house-spec =
+    tie.close
+    (tie.spec (λ c κs. search needs) (λ c κs. search needs) (λ c. cc) (λ c κs. search needs) (λ c κs. search needs) (λ c. cc))

@@ -1,42 +1,16 @@
--- Each arm is the definition's line of that number.
+-- Each arm is the definition's line of that number, and the last is none of the seven.
+-- Assumes nothing.
 use borrow.Author.Tests.{ne-eqb}
 use Rattle.compare.proofs.makers.kind_of.Statement.{statement}
 use Rattle.compare.proofs.makers.kind_of.Tie as tie
 
-returns : tie.Need-returns
-returns c = rw (c .match .keys1)
-
-returns-2 : tie.Need-returns-2
-returns-2 c = rw (c .match .keys2)
-
-returns-3 : tie.Need-returns-3
-returns-3 c = rw (c .match .keys3)
-
-returns-4 : tie.Need-returns-4
-returns-4 c = rw (c .match .keys4)
-
-returns-5 : tie.Need-returns-5
-returns-5 c = rw (c .match .keys5)
-
-returns-6 : tie.Need-returns-6
-returns-6 c = rw (c .match .keys6)
-
-returns-7 : tie.Need-returns-7
-returns-7 c = rw (c .match .keys7)
-
--- none of the seven
-returns-8 : tie.Need-returns-8
-returns-8 c =
-    let r = c .match .rest in
-    rw (
-      ne-eqb _ _ (r .0 .0 .0 .0 .0 .0 .1),
-      ne-eqb _ _ (r .0 .0 .0 .0 .0 .1),
-      ne-eqb _ _ (r .0 .0 .0 .0 .1),
-      ne-eqb _ _ (r .0 .0 .0 .1),
-      ne-eqb _ _ (r .0 .0 .1),
-      ne-eqb _ _ (r .0 .1),
-      ne-eqb _ _ (r .1),
-    )
+rest : tie.Need-returns-8
+rest c =
+    let r = c .match .rest in let q = r .0 .0 .0 in
+    simp (ne-eqb, q .0 .0 .0 .1, q .0 .0 .1, q .0 .1, q .1, r .0 .0 .1, r .0 .1, r .1)
 
 pub kind-of-spec : {M : Type 1} → statement M
-kind-of-spec = tie.close (tie.spec returns returns-2 returns-3 returns-4 returns-5 returns-6 returns-7 returns-8)
+kind-of-spec =
+    tie.close
+    (tie.spec (λ c. rw (c .match .keys1)) (λ c. rw (c .match .keys2)) (λ c. rw (c .match .keys3)) (λ c. rw (c .match .keys4))
+    (λ c. rw (c .match .keys5)) (λ c. rw (c .match .keys6)) (λ c. rw (c .match .keys7)) rest)

@@ -10,7 +10,10 @@ returns : tie.Need-returns
 returns c = (omega arith, (λ _. c .before .is-house .ensures .0 (c .if1 .taken), λ _. refl))
 
 returns-2 : tie.Need-returns-2
-returns-2 c = (omega arith, (λ e. absurd (omega (arith, e)), λ h. absurd (false≢true (sym (c .if1 .left) ∙ c .before .is-house .ensures .1 h))))
+returns-2 c = (
+  omega arith,
+  (λ e. absurd (omega (arith, e)), λ h. absurd (false≢true (sym (c .if1 .left) ∙ c .before .is-house .ensures .1 h))),
+)
 
 pub compare-is-house-spec : {M : Type 1} → statement M
 compare-is-house-spec = tie.close (tie.spec (λ c κs. search needs) returns returns-2)

@@ -1,44 +1,32 @@
 -- What was read so far, joined with the rest, is the or of all, at every turn.
 -- Assumes nothing.
-use mathlib.Core.Path.{_≡_, refl, sym, _∙_}
-use Prim.Native.Nat.{_≤_, _-_}
+use mathlib.Core.Path.{refl, _∙_}
+use Prim.Native.Nat.{_-_}
 use native.Mathlib.Omega.{arith}
 use borrow.Author.Needs.{needs}
-use lib.ListN.{length, drop}
-use Rattle.compare.specs.Reads.{oredWith, ored}
-use Rattle.compare.proofs.Ored.{one-more, none-left}
+use lib.ListN.{length}
+use Rattle.compare.proofs.Ored.{Joined, one-more, none-left}
 use Rattle.compare.proofs.reads.compare_read_bytes.Statement.{statement}
 use Rattle.compare.proofs.reads.compare_read_bytes.Tie as tie
 
 abbrev Inv-loop : tie.InvT-loop
-Inv-loop bytes all₀ i₀ all i = (i ≤ length bytes) × (oredWith all (drop i bytes) ≡ ored bytes)
+Inv-loop bytes all₀ i₀ all i = Joined bytes all i
 
 abbrev μ-loop : tie.MeasureT-loop
 μ-loop bytes all₀ i₀ all i = length bytes - i
 
-loop-holds : tie.Need-loop-holds Inv-loop μ-loop
-loop-holds c = (omega arith, refl)
-
-shared-slice-read-all : tie.Need-shared-slice-read-all Inv-loop μ-loop
-shared-slice-read-all c = omega arith
-
-add-i : tie.Need-add-i Inv-loop μ-loop
-add-i c = omega arith
-
-loop-less : tie.Need-loop-less Inv-loop μ-loop
-loop-less c = omega arith
-
-loop-again : tie.Need-loop-again Inv-loop μ-loop
-loop-again c =
+one-byte : tie.Need-loop-again Inv-loop μ-loop
+one-byte c =
     let l = c .before .before in
-    (omega arith, one-more (l .before .before .args .bytes .now) (l .loop .i) (l .loop .all) (omega arith) ∙ l .loop .inv .1)
+    one-more (l .before .before .args .bytes .now) (l .loop .all) (l .loop .i) (omega arith) (l .loop .inv)
 
-returns : tie.Need-returns Inv-loop μ-loop
-returns c =
+whole : tie.Need-returns Inv-loop μ-loop
+whole c =
     let l = c .before .before in
-    c .wide .ensures ∙ sym (none-left (l .before .before .args .bytes .now) (l .loop .i) (l .loop .all) (omega arith)) ∙ l .loop .inv .1
+    c .wide .ensures ∙ none-left (l .before .before .args .bytes .now) (l .loop .all) (l .loop .i) (omega arith) (l .loop .inv)
 
 pub compare-read-bytes-spec : {M : Type 1} → statement M
 compare-read-bytes-spec =
     tie.close
-    (tie.spec Inv-loop μ-loop loop-holds shared-slice-read-all add-i loop-less loop-again (λ c κs. search needs) returns)
+    (tie.spec Inv-loop μ-loop (λ c. (omega arith, refl)) (λ c. omega arith) (λ c. omega arith) (λ c. omega arith)
+    one-byte (λ c κs. search needs) whole)

@@ -3,8 +3,5 @@ use Rattle.field.specs.Gf.Words.{isBit-is}
 use Rattle.field.proofs.Gf128.is_bit.Statement.{statement}
 use Rattle.field.proofs.Gf128.is_bit.Tie as tie
 
-returns : tie.Need-returns
-returns c = isBit-is (c .before .before .args .self)
-
 pub is-bit-spec : {M : Type 1} → statement M
-is-bit-spec = tie.close (tie.spec returns)
+is-bit-spec = tie.close (tie.spec (λ c. search isBit-is))

@@ -3,8 +3,5 @@ use Rattle.field.specs.Gf.Words.{same-is}
 use Rattle.field.proofs.Gf128.same.Statement.{statement}
 use Rattle.field.proofs.Gf128.same.Tie as tie
 
-returns : tie.Need-returns
-returns c = let a = c .before .before .before .before .args in same-is (a .self) (a .rhs)
-
 pub same-spec : {M : Type 1} → statement M
-same-spec = tie.close (tie.spec returns)
+same-spec = tie.close (tie.spec (λ c. search same-is))

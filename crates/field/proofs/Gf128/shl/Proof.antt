@@ -36,13 +36,8 @@ past-a-word c =
     ∙ up-low 64 (a .k - 64) (x .hi) (x .lo))
     ∙ sym (shifted-is x (a .k))
 
-past-both : tie.Need-returns-4
-past-both c =
-    let a = c .before .before .before .before .args in
-    c .zero .ensures ∙ sym (shifted-past (a .self) (a .k) (omega arith))
-
 pub shl-spec : {M : Type 1} → statement M
 shl-spec =
     tie.close
     (tie.spec by-nothing (λ c. search needs) (λ c. search needs) (λ c. search needs) (λ c. search needs) (λ c. search needs)
-    within-a-word (λ c. search needs) (λ c. search needs) past-a-word (λ c κs. search needs) past-both)
+    within-a-word (λ c. search needs) (λ c. search needs) past-a-word (λ c κs. search needs) (λ c. search (shifted-past, needs)))

@@ -4,8 +4,5 @@ use borrow.Author.Needs.{needs}
 use Rattle.filler.proofs.conditions.address.Statement.{statement}
 use Rattle.filler.proofs.conditions.address.Tie as tie
 
-returns : tie.Need-returns
-returns c = cc
-
 pub address-spec : {M : Type 1} → statement M
-address-spec = tie.close (tie.spec (λ c κs. search needs) returns)
+address-spec = tie.close (tie.spec (λ c κs. search needs) (λ c. cc))

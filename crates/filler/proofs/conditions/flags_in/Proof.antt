@@ -4,12 +4,8 @@ use borrow.Author.Needs.{needs}
 use Rattle.filler.proofs.conditions.flags_in.Statement.{statement}
 use Rattle.filler.proofs.conditions.flags_in.Tie as tie
 
-returns : tie.Need-returns
-returns c = cc
-
 pub flags-in-spec : {M : Type 1} → statement M
 flags-in-spec =
     tie.close
     (tie.spec (λ c κs. search needs) (λ c κs. search needs) (λ c κs. search needs) (λ c κs. search needs) (λ c κs. search needs)
-    (λ c κs. search needs) (λ c κs. search needs) (λ c κs. search needs) (λ c κs. search needs) (λ c. search needs)
-    (λ c. search needs) returns)
+    (λ c. search needs) (λ c. search needs) (λ c. cc))

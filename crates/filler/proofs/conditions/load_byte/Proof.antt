@@ -4,8 +4,5 @@ use borrow.Author.Needs.{needs}
 use Rattle.filler.proofs.conditions.load_byte.Statement.{statement}
 use Rattle.filler.proofs.conditions.load_byte.Tie as tie
 
-returns : tie.Need-returns
-returns c = cc
-
 pub load-byte-spec : {M : Type 1} → statement M
-load-byte-spec = tie.close (tie.spec (λ c κs. search needs) (λ c κs. search needs) returns)
+load-byte-spec = tie.close (tie.spec (λ c κs. search needs) (λ c κs. search needs) (λ c. cc))

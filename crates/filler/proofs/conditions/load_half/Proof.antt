@@ -4,11 +4,8 @@ use borrow.Author.Needs.{needs}
 use Rattle.filler.proofs.conditions.load_half.Statement.{statement}
 use Rattle.filler.proofs.conditions.load_half.Tie as tie
 
-returns : tie.Need-returns
-returns c = cc
-
 pub load-half-spec : {M : Type 1} → statement M
 load-half-spec =
     tie.close
     (tie.spec (λ c κs. search needs) (λ c κs. search needs) (λ c κs. search needs) (λ c. search needs) (λ c κs. search needs)
-    returns)
+    (λ c. cc))

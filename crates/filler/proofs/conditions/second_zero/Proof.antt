@@ -4,8 +4,5 @@ use borrow.Author.Needs.{needs}
 use Rattle.filler.proofs.conditions.second_zero.Statement.{statement}
 use Rattle.filler.proofs.conditions.second_zero.Tie as tie
 
-returns : tie.Need-returns
-returns c = cc
-
 pub second-zero-spec : {M : Type 1} → statement M
-second-zero-spec = tie.close (tie.spec (λ c κs. search needs) returns)
+second-zero-spec = tie.close (tie.spec (λ c κs. search needs) (λ c. cc))

@@ -4,8 +4,5 @@ use borrow.Author.Needs.{needs}
 use Rattle.filler.proofs.conditions.system.Statement.{statement}
 use Rattle.filler.proofs.conditions.system.Tie as tie
 
-returns : tie.Need-returns
-returns c = cc
-
 pub system-spec : {M : Type 1} → statement M
-system-spec = tie.close (tie.spec (λ c κs. search needs) (λ c κs. search needs) returns)
+system-spec = tie.close (tie.spec (λ c κs. search needs) (λ c κs. search needs) (λ c. cc))

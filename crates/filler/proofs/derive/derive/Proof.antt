@@ -4,11 +4,8 @@ use borrow.Author.Needs.{needs}
 use Rattle.filler.proofs.derive.derive.Statement.{statement}
 use Rattle.filler.proofs.derive.derive.Tie as tie
 
-returns : tie.Need-returns
-returns c = cc
-
 pub derive-spec : {M : Type 1} → statement M
 derive-spec =
     tie.close
     (tie.spec (λ c κs. search needs) (λ c κs. search needs) (λ c κs. search needs) (λ c κs. search needs) (λ c κs. search needs)
-    (λ c κs. search needs) returns)
+    (λ c κs. search needs) (λ c. cc))

@@ -4,8 +4,5 @@ use borrow.Author.Needs.{needs}
 use Rattle.filler.proofs.derive.picked.Statement.{statement}
 use Rattle.filler.proofs.derive.picked.Tie as tie
 
-returns : tie.Need-returns
-returns c = cc
-
 pub picked-spec : {M : Type 1} → statement M
-picked-spec = tie.close (tie.spec (λ c κs. search needs) (λ c κs. search needs) (λ c κs. search needs) returns)
+picked-spec = tie.close (tie.spec (λ c κs. search needs) (λ c κs. search needs) (λ c κs. search needs) (λ c. cc))

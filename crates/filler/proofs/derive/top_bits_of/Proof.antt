@@ -4,11 +4,8 @@ use borrow.Author.Needs.{needs}
 use Rattle.filler.proofs.derive.top_bits_of.Statement.{statement}
 use Rattle.filler.proofs.derive.top_bits_of.Tie as tie
 
-returns : tie.Need-returns
-returns c = cc
-
 pub top-bits-of-spec : {M : Type 1} → statement M
 top-bits-of-spec =
     tie.close
     (tie.spec (λ c κs. search needs) (λ c κs. search needs) (λ c κs. search needs) (λ c κs. search needs) (λ c κs. search needs)
-    (λ c κs. search needs) (λ c κs. search needs) returns)
+    (λ c κs. search needs) (λ c κs. search needs) (λ c. cc))

@@ -2,8 +2,7 @@
 -- Assumes nothing.
 use mathlib.Core.Path.{sym, _∙_}
 use borrow.Author.Needs.{needs}
-use Rattle.layout.specs.declared.Asked.the-variants.{No}
-use Rattle.layout.specs.Laws.Questions.{if-yes, if-no, batch-yes}
+use Rattle.layout.specs.Laws.Questions.{batch-yes, asking}
 use Rattle.layout.specs.Laws.Sizes.{allowed-range}
 use Rattle.step.specs.Fill.{fillAsked}
 use Rattle.filler.proofs.fill.ask.Statement.{statement}
@@ -14,16 +13,8 @@ ask-columns-requires c κs =
     let yes = batch-yes _ _ (sym (c .before .before .ask-batch .ensures) ∙ c .enum-told .given .1) in let r = allowed-range _ (yes .0) in
     (r .0, (r .1, yes .1))
 
-returns : tie.Need-returns
-unfolding fillAsked
-returns c = let r = c .before in if-no No _ (sym (r .before .before .ask-batch .ensures) ∙ r .r .given .1)
-
-returns-2 : tie.Need-returns-2
-unfolding fillAsked
-returns-2 c =
-    let t = c .before in c .ask-columns .ensures ∙ if-yes No _ (sym (t .before .before .ask-batch .ensures) ∙ t .enum-told .given .1)
-
 pub ask-spec : {M : Type 1} → statement M
+unfolding fillAsked
 ask-spec =
     tie.close
-    (tie.spec (λ c κs. search needs) (λ c. search needs) (λ c. search needs) ask-columns-requires returns returns-2)
+    (tie.spec (λ c κs. search needs) (λ c. search needs) (λ c. search needs) ask-columns-requires (λ c. search asking) (λ c. search asking))

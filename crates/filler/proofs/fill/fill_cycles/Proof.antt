@@ -31,9 +31,6 @@ fill-cycle-requires c κs =
 add-cycle : tie.Need-add-cycle Inv-loop μ-loop
 add-cycle c = omega (arith, allowed-range _ (c .before .before .before .before .before .before .before .pre .size))
 
-loop-less : tie.Need-loop-less Inv-loop μ-loop
-loop-less c = omega arith
-
 loop-again : tie.Need-loop-again Inv-loop μ-loop
 unfolding fillCycles
 loop-again c =
@@ -57,4 +54,4 @@ returns c =
 pub fill-cycles-spec : {M : Type 1} → statement M
 fill-cycles-spec =
     tie.close
-    (tie.spec Inv-loop μ-loop loop-holds fill-cycle-requires add-cycle loop-less loop-again same-length returns)
+    (tie.spec Inv-loop μ-loop loop-holds fill-cycle-requires add-cycle (λ c. omega arith) loop-again same-length returns)

@@ -18,9 +18,6 @@ Inv-loop cpi batch columns i₀ i =
 abbrev μ-loop : tie.MeasureT-loop
 μ-loop cpi batch columns i₀ i = columns - i
 
-mul-columns : tie.Need-mul-columns Inv-loop μ-loop
-mul-columns c = omega arith
-
 loop-holds : tie.Need-loop-holds Inv-loop μ-loop
 loop-holds c = (refl, search needs, rw sub-zero)
 
@@ -28,12 +25,6 @@ returns : tie.Need-returns Inv-loop μ-loop
 returns c =
     let t = c .before .before .before .loop in
     sym (first-stops _ (t .i) _ (c .before .before .loop-test .taken) (sym (c .before .is-faulty .ensures) ∙ c .if1 .taken)) ∙ t .inv .2
-
-add-i : tie.Need-add-i Inv-loop μ-loop
-add-i c = omega arith
-
-loop-less : tie.Need-loop-less Inv-loop μ-loop
-loop-less c = omega arith
 
 loop-again : tie.Need-loop-again Inv-loop μ-loop
 loop-again c =
@@ -49,4 +40,5 @@ returns-2 c = let t = c .before .loop in sym (first-ends _ (t .i) _ (c .loop-tes
 pub first-faulty-spec : {M : Type 1} → statement M
 first-faulty-spec =
     tie.close
-    (tie.spec Inv-loop μ-loop mul-columns loop-holds (λ c κs. search needs) returns add-i loop-less loop-again returns-2)
+    (tie.spec Inv-loop μ-loop (λ c. omega arith) loop-holds (λ c κs. search needs) returns (λ c. omega arith) (λ c. omega arith)
+    loop-again returns-2)

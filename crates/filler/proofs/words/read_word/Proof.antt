@@ -23,12 +23,6 @@ loop-holds : tie.Need-loop-holds Inv-loop μ-loop
 unfolding val
 loop-holds c = (search needs, refl)
 
-sub-i : tie.Need-sub-i Inv-loop μ-loop
-sub-i c = omega arith
-
-add-bit-at : tie.Need-add-bit-at Inv-loop μ-loop
-add-bit-at c = omega arith
-
 mul-w : tie.Need-mul-w Inv-loop μ-loop
 mul-w c =
     let a = c .before .before .before .before .args in let l = c .before .before .loop in
@@ -39,9 +33,6 @@ add-w c =
     let a = c .before .before .before .before .args in let l = c .before .before .loop in
     let z = bitsOf (a .cpi) (a .batch .now) (a .cycle) in
     omega (arith, word-fits z (a .column + l .i) (l .i) (l .w) (omega arith) (l .inv .1), digit-lt (z (a .column + (l .i - 1))))
-
-loop-less : tie.Need-loop-less Inv-loop μ-loop
-loop-less c = omega arith
 
 loop-again : tie.Need-loop-again Inv-loop μ-loop
 loop-again c =
@@ -61,4 +52,5 @@ returns c =
 pub read-word-spec : {M : Type 1} → statement M
 read-word-spec =
     tie.close
-    (tie.spec Inv-loop μ-loop loop-holds sub-i add-bit-at (λ c κs. search needs) mul-w add-w loop-less loop-again returns)
+    (tie.spec Inv-loop μ-loop loop-holds (λ c. omega arith) (λ c. omega arith) (λ c κs. search needs) mul-w add-w
+    (λ c. omega arith) loop-again returns)

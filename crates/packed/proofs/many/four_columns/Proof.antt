@@ -14,9 +14,6 @@ Inv-loop batch at s step acc₀ low₀ high₀ d₀ i₀ acc low high d i = (d �
 abbrev μ-loop : tie.MeasureT-loop
 μ-loop batch at s step acc₀ low₀ high₀ d₀ i₀ acc low high d i = length acc₀ - d
 
-loop-holds : tie.Need-loop-holds Inv-loop μ-loop
-loop-holds c = (search needs, first-turn _ _ _ _)
-
 loop-again : tie.Need-loop-again Inv-loop μ-loop
 loop-again c =
     let c2 = c .before .before in let c4 = c2 .before .before in let c5 = c4 .before in let c8 = c5 .before .before .before in
@@ -26,9 +23,6 @@ loop-again c =
           (omega (arith, l .inv .1 .lengths, c4 .loop-test .taken)) (c8 .pre .two) (l .inv .1) (c2 .put-four .ensures)
           (c .before .seen-four .ensures) (c .seen-four2 .ensures),
     )
-
-same-length : tie.Need-same-length Inv-loop μ-loop
-same-length c = c .before .loop .inv .1 .lengths
 
 returns : tie.Need-returns Inv-loop μ-loop
 returns c =
@@ -40,6 +34,6 @@ returns c =
 pub four-columns-spec : {M : Type 1} → statement M
 four-columns-spec =
     tie.close
-    (tie.spec Inv-loop μ-loop loop-holds (λ c. search needs) (λ c. search needs) (λ c κs. search needs) (λ c. search needs)
-    (λ c. search needs) (λ c κs. search needs) (λ c. search needs) (λ c κs. search needs) (λ c. search needs)
-    (λ c. search needs) (λ c. search needs) loop-again same-length returns)
+    (tie.spec Inv-loop μ-loop (λ c. search (first-turn, needs)) (λ c. search needs) (λ c. search needs) (λ c κs. search needs)
+    (λ c. search needs) (λ c. search needs) (λ c κs. search needs) (λ c. search needs) (λ c κs. search needs)
+    (λ c. search needs) (λ c. search needs) (λ c. search needs) loop-again (λ c. c .before .loop .inv .1 .lengths) returns)

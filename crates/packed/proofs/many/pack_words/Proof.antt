@@ -1,12 +1,13 @@
 -- `packed::many::pack_words` meets its contract: the words passed stand in their places, of every cycle.
 -- Assumes nothing.
-use mathlib.Core.Path.{_≡_, sym, ap, subst, _∙_}
-use Prim.Native.Nat.{ℕ, _-_, _≤_}
+use mathlib.Core.Path.{_≡_, ap, _∙_}
+use Prim.Native.Nat.{_-_, _≤_}
 use native.Mathlib.Omega.{arith}
 use lib.ListN.{length, length-replicate}
 use Rattle.packed.specs.Ranges.{Ranged}
-use Rattle.packed.specs.Laws.Ranges.{cleared, no-range, next-range}
+use Rattle.packed.specs.Laws.Ranges.{cleared, no-range, next-range, range-ends}
 use borrow.Author.Needs.{needs}
+use Rattle.base.specs.Laws.WaysOut.{waysOut}
 use Rattle.packed.proofs.many.pack_words.Statement.{statement}
 use Rattle.packed.proofs.many.pack_words.Tie as tie
 
@@ -16,9 +17,6 @@ Inv-loop cpi batch step first last acc₀ out₀ bad₀ k₀ acc out bad k =
 
 abbrev μ-loop : tie.MeasureT-loop
 μ-loop cpi batch step first last acc₀ out₀ bad₀ k₀ acc out bad k = last - k
-
-loop-holds : tie.Need-loop-holds Inv-loop μ-loop
-loop-holds c = (c .before .before .before .pre .1 .0, (search needs, (c .before .before .before .pre .0 .order, no-range _ _ _ _)))
 
 word-columns-requires : tie.Need-word-columns-requires Inv-loop μ-loop
 word-columns-requires c κs =
@@ -58,20 +56,9 @@ loop-again c =
       ),
     )
 
-same-length : tie.Need-same-length Inv-loop μ-loop
-same-length c = c .before .loop .inv .0 ∙ sym (c .before .before .before .before .before .pre .1 .0)
-
-same-length-2 : tie.Need-same-length-2 Inv-loop μ-loop
-same-length-2 c = c .before .loop .inv .1 .1 .1 .lengths
-
-returns : tie.Need-returns Inv-loop μ-loop
-returns c =
-    let c5 = c .before .before .before .before .before in
-    let a = c5 .args in let l = c .before .loop in let e : l .k ≡ a .last = omega (arith, l .inv .1 .1 .0, c .loop-test .left) in
-    subst (λ (n : ℕ). Ranged (a .cpi) (a .batch .now) (a .first) n (a .out .now) (l .out) (l .bad)) e (l .inv .1 .1 .1)
-
 pub pack-words-spec : {M : Type 1} → statement M
 pack-words-spec =
     tie.close
-    (tie.spec Inv-loop μ-loop loop-holds (λ c κs. search needs) word-columns-requires put-words-requires (λ c. search needs)
-    (λ c. search needs) loop-again same-length same-length-2 returns)
+    (tie.spec Inv-loop μ-loop (λ c. search (no-range, needs)) (λ c κs. search needs) word-columns-requires put-words-requires
+    (λ c. search needs) (λ c. search needs) loop-again (λ c. search (waysOut, needs))
+    (λ c. c .before .loop .inv .1 .1 .1 .lengths) (λ c. search range-ends))

@@ -16,9 +16,6 @@ Inv-loop acc k out₀ d₀ out d = (d ≤ length acc) × Scattered acc k d out�
 abbrev μ-loop : tie.MeasureT-loop
 μ-loop acc k out₀ d₀ out d = length acc - d
 
-loop-holds : tie.Need-loop-holds Inv-loop μ-loop
-loop-holds c = (search needs, first-scattered _ _ _)
-
 loop-again : tie.Need-loop-again Inv-loop μ-loop
 loop-again c =
     let c2 = c .before .before in let c3 = c2 .before in
@@ -27,9 +24,6 @@ loop-again c =
       next-scattered (a .acc .now) (a .k) (l .d) (a .out .now) (l .out) (c3 .pre .0)
           (omega (arith, c3 .pre .0, c3 .pre .1, c .before .loop-test .taken)) (l .inv .1),
     )
-
-same-length : tie.Need-same-length Inv-loop μ-loop
-same-length c = c .before .loop .inv .1 .lengths
 
 returns : tie.Need-returns Inv-loop μ-loop
 returns c =
@@ -40,5 +34,6 @@ returns c =
 pub put-words-spec : {M : Type 1} → statement M
 put-words-spec =
     tie.close
-    (tie.spec Inv-loop μ-loop loop-holds (λ c. search needs) (λ c. search needs) (λ c. search needs) (λ c. search needs)
-    (λ c. search needs) (λ c. search needs) (λ c. search needs) (λ c. search needs) loop-again same-length returns)
+    (tie.spec Inv-loop μ-loop (λ c. search (first-scattered, needs)) (λ c. search needs) (λ c. search needs) (λ c. search needs)
+    (λ c. search needs) (λ c. search needs) (λ c. search needs) (λ c. search needs) (λ c. search needs) loop-again
+    (λ c. c .before .loop .inv .1 .lengths) returns)

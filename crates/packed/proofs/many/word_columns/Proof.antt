@@ -1,11 +1,11 @@
 -- `packed::many::word_columns` meets its contract: after each turn acc has the stack of the columns passed.
 -- Assumes nothing.
-use mathlib.Core.Path.{sym, _∙_}
 use Prim.Native.Nat.{_+_, _*_, _-_, _≤_}
 use native.Mathlib.Omega.{arith}
 use Rattle.packed.specs.Columns.{WordTurn}
 use Rattle.packed.specs.Laws.Columns.{column-below, four-fits, first-word, next-word, last-word}
 use borrow.Author.Needs.{needs}
+use Rattle.base.specs.Laws.WaysOut.{waysOut}
 use Rattle.packed.proofs.many.word_columns.Statement.{statement}
 use Rattle.packed.proofs.many.word_columns.Tie as tie
 
@@ -14,9 +14,6 @@ Inv-loop cpi batch step k acc₀ bad₀ j₀ acc bad j = (j ≤ 16) × WordTurn 
 
 abbrev μ-loop : tie.MeasureT-loop
 μ-loop cpi batch step k acc₀ bad₀ j₀ acc bad j = j
-
-loop-holds : tie.Need-loop-holds Inv-loop μ-loop
-loop-holds c = let p = c .before .before .pre in (search needs, first-word _ _ _ _ (p .sized) (p .clear))
 
 mul-at-4 : tie.Need-mul-at-4 Inv-loop μ-loop
 mul-at-4 c =
@@ -41,9 +38,6 @@ loop-again c =
           (c2 .four-columns .ensures),
     )
 
-same-length : tie.Need-same-length Inv-loop μ-loop
-same-length c = c .before .loop .inv .1 .sized ∙ sym (c .before .before .before .before .pre .sized)
-
 returns : tie.Need-returns Inv-loop μ-loop
 returns c =
     let a = c .before .before .before .before .args in let l = c .before .loop in
@@ -52,5 +46,6 @@ returns c =
 pub word-columns-spec : {M : Type 1} → statement M
 word-columns-spec =
     tie.close
-    (tie.spec Inv-loop μ-loop loop-holds (λ c. search needs) (λ c. search needs) (λ c. search needs) (λ c. search needs)
-    (λ c. search needs) mul-at-4 (λ c. search needs) four-columns-requires (λ c. search needs) loop-again same-length returns)
+    (tie.spec Inv-loop μ-loop (λ c. search (first-word, needs)) (λ c. search needs) (λ c. search needs) (λ c. search needs)
+    (λ c. search needs) (λ c. search needs) mul-at-4 (λ c. search needs) four-columns-requires (λ c. search needs) loop-again
+    (λ c. search waysOut) returns)

@@ -5,14 +5,9 @@ use borrow.Author.Needs.{needs}
 use Rattle.packed.proofs.one.four_at.Statement.{statement}
 use Rattle.packed.proofs.one.four_at.Tie as tie
 
-returns : tie.Need-returns
-returns c =
-    let c6 = c .before .before .before .before .before .before in
-    four-columns (c6 .args .batch .now) (c6 .args .i) (c .four .ensures)
-
 pub four-at-spec : {M : Type 1} → statement M
 four-at-spec =
     tie.close
     (tie.spec (λ c. search needs) (λ c. search needs) (λ c. search needs) (λ c. search needs) (λ c. search needs)
     (λ c. search needs) (λ c. search needs) (λ c. search needs) (λ c. search needs) (λ c. search needs) (λ c. search needs)
-    (λ c κs. search needs) returns)
+    (λ c κs. search needs) (λ c. search four-columns))

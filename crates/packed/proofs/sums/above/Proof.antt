@@ -2,12 +2,10 @@
 -- Assumes nothing.
 use Rattle.packed.specs.Stacked.{pushed}
 use borrow.Author.Needs.{needs}
+use Rattle.base.specs.Laws.WaysOut.{waysOut}
 use Rattle.packed.proofs.sums.above.Statement.{statement}
 use Rattle.packed.proofs.sums.above.Tie as tie
 
-returns : tie.Need-returns
-unfolding pushed
-returns c = c .wrapping-add-u64 .ensures
-
 pub above-spec : {M : Type 1} → statement M
-above-spec = tie.close (tie.spec (λ c. search needs) (λ c κs. search needs) returns)
+unfolding pushed
+above-spec = tie.close (tie.spec (λ c. search needs) (λ c κs. search needs) (λ c. search waysOut))

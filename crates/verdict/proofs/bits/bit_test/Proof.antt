@@ -9,7 +9,7 @@ use native.Mathlib.Omega.{arith}
 use lib.Dec.{ltb}
 use Rattle.base.specs.Laws.Tests.{passed, refused}
 use Rattle.layout.specs.Batch.{unmapped}
-use Rattle.layout.specs.Laws.Questions.{if-yes, if-no, batch-yes}
+use Rattle.layout.specs.Laws.Questions.{if-yes, batch-yes, asking}
 use Rattle.layout.specs.Laws.Sizes.{allowed-range}
 use Rattle.verdict.specs.declared.bits.BitAnswer.{BitAnswer}
 use Rattle.verdict.specs.declared.bits.BitAnswer.the-variants.{AllBits, Refused}
@@ -29,10 +29,6 @@ first-above-requires c κs =
 abbrev found : ℕ → ℕ → BitAnswer
 found cpi at = cond (ltb at (2048 * cpi)) (placed at (unmapped cpi at)) AllBits
 
-returns : tie.Need-returns
-unfolding bitTested
-returns c = let r = c .before in if-no Refused _ (sym (r .before .before .ask-batch .ensures) ∙ r .r .given .1)
-
 returns-2 : tie.Need-returns-2
 unfolding bitTested
 returns-2 c =
@@ -48,7 +44,8 @@ returns-3 c =
     ∙ if-yes Refused _ (sym (m .ask-batch .ensures) ∙ t .enum-told .given .1)
 
 pub bit-test-spec : {M : Type 1} → statement M
+unfolding bitTested
 bit-test-spec =
     tie.close
     (tie.spec (λ c κs. search needs) (λ c. search needs) (λ c. search needs) mul-columns first-above-requires
-    (λ c κs. search needs) returns returns-2 returns-3)
+    (λ c κs. search needs) (λ c. search asking) returns-2 returns-3)

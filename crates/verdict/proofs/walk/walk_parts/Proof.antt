@@ -51,10 +51,6 @@ cycles-holds :
     tie.Need-cycles-holds Inv-rows μ-rows Inv-cycles μ-cycles Inv-relations μ-relations
 cycles-holds c = (search needs, search needs, along _ _ (relation-step _ _ _ _ (omega arith)) (c .before .relations .inv .2))
 
-part-at-requires :
-    tie.Need-part-at-requires Inv-rows μ-rows Inv-cycles μ-cycles Inv-relations μ-relations
-part-at-requires c κs = search needs
-
 rows-holds :
     tie.Need-rows-holds Inv-rows μ-rows Inv-cycles μ-cycles Inv-relations μ-relations
 rows-holds c =
@@ -67,43 +63,11 @@ rows-holds c =
       along _ _ (cycle-step _ _ _ _ _ (omega arith) _ e) (c .before .before .cycles .inv .2),
     )
 
-mul-mark :
-    tie.Need-mul-mark Inv-rows μ-rows Inv-cycles μ-cycles Inv-relations μ-relations
-mul-mark c = search needs
-
-shared-slice-read-mark :
-    tie.Need-shared-slice-read-mark Inv-rows μ-rows Inv-cycles μ-cycles Inv-relations μ-relations
-shared-slice-read-mark c = search needs
-
-add-test-row :
-    tie.Need-add-test-row Inv-rows μ-rows Inv-cycles μ-cycles Inv-relations μ-relations
-add-test-row c = search needs
-
 test-row-requires :
     tie.Need-test-row-requires Inv-rows μ-rows Inv-cycles μ-cycles Inv-relations μ-relations
 test-row-requires c κs =
     let t = c .before .before .rows in
     (search needs, (search needs, at-mark _ (t .at) (c .before .rows-test .taken) (t .inv .3) .1))
-
-add-tested :
-    tie.Need-add-tested Inv-rows μ-rows Inv-cycles μ-cycles Inv-relations μ-relations
-add-tested c = search needs
-
-relation-of-requires :
-    tie.Need-relation-of-requires Inv-rows μ-rows Inv-cycles μ-cycles Inv-relations μ-relations
-relation-of-requires c κs = search needs
-
-cast-batch-row :
-    tie.Need-cast-batch-row Inv-rows μ-rows Inv-cycles μ-cycles Inv-relations μ-relations
-cast-batch-row c = search needs
-
-batch-row-requires :
-    tie.Need-batch-row-requires Inv-rows μ-rows Inv-cycles μ-cycles Inv-relations μ-relations
-batch-row-requires c κs = search needs
-
-rows-less :
-    tie.Need-rows-less Inv-rows μ-rows Inv-cycles μ-cycles Inv-relations μ-relations
-rows-less c = search needs
 
 rows-again :
     tie.Need-rows-again Inv-rows μ-rows Inv-cycles μ-cycles Inv-relations μ-relations
@@ -118,25 +82,9 @@ rows-again c =
           (sym (r .ensures .holds-is) ∙ not-false _ (c .if2 .left)),
     )
 
-add-cycle :
-    tie.Need-add-cycle Inv-rows μ-rows Inv-cycles μ-cycles Inv-relations μ-relations
-add-cycle c = search needs
-
-cycles-less :
-    tie.Need-cycles-less Inv-rows μ-rows Inv-cycles μ-cycles Inv-relations μ-relations
-cycles-less c = search needs
-
 cycles-again :
     tie.Need-cycles-again Inv-rows μ-rows Inv-cycles μ-cycles Inv-relations μ-relations
 cycles-again c = (search needs, omega arith, along _ _ (row-end _ _ _ _ _ _ _ (c .rows-test .left)) (c .before .rows .inv .4))
-
-add-relation :
-    tie.Need-add-relation Inv-rows μ-rows Inv-cycles μ-cycles Inv-relations μ-relations
-add-relation c = search needs
-
-relations-less :
-    tie.Need-relations-less Inv-rows μ-rows Inv-cycles μ-cycles Inv-relations μ-relations
-relations-less c = search needs
 
 relations-again :
     tie.Need-relations-again Inv-rows μ-rows Inv-cycles μ-cycles Inv-relations μ-relations
@@ -160,7 +108,7 @@ returns-2 c =
 pub walk-parts-spec : {M : Type 1} → statement M
 walk-parts-spec =
     tie.close
-    (tie.spec Inv-rows μ-rows Inv-cycles μ-cycles Inv-relations μ-relations relations-holds cycles-holds part-at-requires
-    rows-holds mul-mark shared-slice-read-mark add-test-row test-row-requires add-tested relation-of-requires cast-batch-row
-    batch-row-requires rows-less rows-again add-cycle cycles-less cycles-again add-relation relations-less relations-again
-    returns returns-2)
+    (tie.spec Inv-rows μ-rows Inv-cycles μ-cycles Inv-relations μ-relations relations-holds cycles-holds (λ c κs. search needs)
+    rows-holds (λ c. search needs) (λ c. search needs) (λ c. search needs) test-row-requires (λ c. search needs)
+    (λ c κs. search needs) (λ c. search needs) (λ c κs. search needs) (λ c. search needs) rows-again (λ c. search needs)
+    (λ c. search needs) cycles-again (λ c. search needs) (λ c. search needs) relations-again returns returns-2)

@@ -79,12 +79,6 @@ slice-write-batch-2 : tie.Need-slice-write-batch-2 Inv-loop μ-loop
 slice-write-batch-2 c =
     let l = c .before .before .before in simp length-set (omega (arith, l .loop .inv, l .loop .inv .4 .lengths, l .before .pre .1 .0))
 
-add-cycle : tie.Need-add-cycle Inv-loop μ-loop
-add-cycle c = omega arith
-
-loop-less : tie.Need-loop-less Inv-loop μ-loop
-loop-less c = omega arith
-
 loop-again : tie.Need-loop-again Inv-loop μ-loop
 loop-again c =
     let l = c .before .before .before in let a = l .before .args in
@@ -115,5 +109,5 @@ write-column-spec =
     tie.close
     (tie.spec Inv-loop μ-loop mul-start mul-start-2 loop-holds mul-lent add-lent mul-lent-2 (λ c. search needs)
     shared-slice-read-batch mul-batch-2 add-batch (λ c. search needs) slice-write-batch add-batch-2 (λ c. search needs)
-    shared-slice-read-batch-2 mul-batch-5 add-batch-3 add-batch-4 (λ c. search needs) slice-write-batch-2 add-cycle loop-less
-    loop-again same-length returns)
+    shared-slice-read-batch-2 mul-batch-5 add-batch-3 add-batch-4 (λ c. search needs) slice-write-batch-2 (λ c. omega arith)
+    (λ c. omega arith) loop-again same-length returns)

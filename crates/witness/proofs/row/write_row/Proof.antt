@@ -11,9 +11,6 @@ use Rattle.witness.specs.Laws.Halves.{halves-written}
 use Rattle.witness.proofs.row.write_row.Statement.{statement}
 use Rattle.witness.proofs.row.write_row.Tie as tie
 
-write-words-requires : tie.Need-write-words-requires
-write-words-requires c κs = omega arith
-
 write-upper-requires : tie.Need-write-upper-requires
 write-upper-requires c κs = let lower = c .before .before .before in omega (arith, lower .write-words .ensures .lengths)
 
@@ -26,4 +23,4 @@ returns c =
     (upper .write-upper .ensures)
 
 pub write-row-spec : {M : Type 1} → statement M
-write-row-spec = tie.close (tie.spec write-words-requires write-upper-requires (λ c. search needs) returns)
+write-row-spec = tie.close (tie.spec (λ c κs. omega arith) write-upper-requires (λ c. search needs) returns)

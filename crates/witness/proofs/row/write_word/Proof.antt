@@ -23,32 +23,8 @@ abbrev μ-loop : tie.MeasureT-loop
 loop-holds : tie.Need-loop-holds Inv-loop μ-loop
 loop-holds c = (omega arith, sym (div-one _), written-to _ _ _ _ _ _ (sym (add-zero _)) (written-none _ _ _))
 
-mul-row : tie.Need-mul-row Inv-loop μ-loop
-mul-row c = omega arith
-
-add-row : tie.Need-add-row Inv-loop μ-loop
-add-row c = omega arith
-
-slice-write-row : tie.Need-slice-write-row Inv-loop μ-loop
-slice-write-row c = omega arith
-
-mul-row-3 : tie.Need-mul-row-3 Inv-loop μ-loop
-mul-row-3 c = omega arith
-
-add-row-2 : tie.Need-add-row-2 Inv-loop μ-loop
-add-row-2 c = omega arith
-
-add-row-3 : tie.Need-add-row-3 Inv-loop μ-loop
-add-row-3 c = omega arith
-
 slice-write-row-2 : tie.Need-slice-write-row-2 Inv-loop μ-loop
 slice-write-row-2 c = simp length-set (omega (arith, c .before .loop .inv .2 .lengths))
-
-add-i : tie.Need-add-i Inv-loop μ-loop
-add-i c = omega arith
-
-loop-less : tie.Need-loop-less Inv-loop μ-loop
-loop-less c = omega arith
 
 loop-again : tie.Need-loop-again Inv-loop μ-loop
 loop-again c =
@@ -71,5 +47,6 @@ returns c =
 pub write-word-spec : {M : Type 1} → statement M
 write-word-spec =
     tie.close
-    (tie.spec Inv-loop μ-loop loop-holds mul-row add-row (λ c. search needs) slice-write-row mul-row-3 add-row-2 add-row-3
-    (λ c. search needs) slice-write-row-2 add-i loop-less loop-again same-length returns)
+    (tie.spec Inv-loop μ-loop loop-holds (λ c. omega arith) (λ c. omega arith) (λ c. search needs) (λ c. omega arith)
+    (λ c. omega arith) (λ c. omega arith) (λ c. omega arith) (λ c. search needs) slice-write-row-2 (λ c. omega arith)
+    (λ c. omega arith) loop-again same-length returns)

@@ -22,17 +22,8 @@ abbrev μ-loop : tie.MeasureT-loop
 loop-holds : tie.Need-loop-holds Inv-loop μ-loop
 loop-holds c = (omega arith, written-none _ _ _)
 
-mul-write-word : tie.Need-mul-write-word Inv-loop μ-loop
-mul-write-word c = omega arith
-
 write-word-requires : tie.Need-write-word-requires Inv-loop μ-loop
 write-word-requires c κs = omega (arith, c .before .before .before .loop .inv .1 .lengths)
-
-add-j : tie.Need-add-j Inv-loop μ-loop
-add-j c = omega arith
-
-loop-less : tie.Need-loop-less Inv-loop μ-loop
-loop-less c = omega arith
 
 loop-again : tie.Need-loop-again Inv-loop μ-loop
 loop-again c =
@@ -53,5 +44,5 @@ returns c = let l = c .before .loop in let end : 128 * l .j ≡ 4096 = omega ari
 pub write-words-spec : {M : Type 1} → statement M
 write-words-spec =
     tie.close
-    (tie.spec Inv-loop μ-loop loop-holds (λ c κs. search needs) mul-write-word write-word-requires add-j loop-less loop-again
-    same-length returns)
+    (tie.spec Inv-loop μ-loop loop-holds (λ c κs. search needs) (λ c. omega arith) write-word-requires (λ c. omega arith)
+    (λ c. omega arith) loop-again same-length returns)
