@@ -13,7 +13,7 @@ use Rattle.witness.specs.declared.records.VirtualKind.the-variants.{Alu, ShiftS
 use Rattle.witness.specs.declared.branch.BranchReading.{BranchReading}
 use Rattle.witness.specs.declared.branch.BranchReading.the-variants.{NoBranch, Taken, NotTaken}
 use Rattle.witness.specs.Row.{rowCalled}
-use Rattle.compare.specs.Numbers.{Reply, reply, fillReply}
+use Rattle.compare.specs.Replies.{Reply, reply, fillReply}
 
 abbrev flag : List ℕ → ℕ → Bool
 flag ws i = eqb (getD ws i 0 % 2) 1

@@ -2,7 +2,7 @@
 ghost use mathlib.Core.Path.{_≡_};
 ghost use Rattle.step.specs.Fill.{called};
 ghost use Rattle.filler.specs.Met.{stepAnswer};
-ghost use Rattle.compare.specs.Numbers.{reply, askedNumber, fillReply, stepNumber};
+ghost use Rattle.compare.specs.Replies.{reply, askedNumber, fillReply, stepNumber};
 use crate::check::refused_at;
 use filler::conditions::StepAnswer;
 use layout::Asked;

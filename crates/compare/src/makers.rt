@@ -4,7 +4,7 @@ ghost use Prim.Native.Nat.{_≤_};
 ghost use lib.ListN.{length};
 ghost use Rattle.witness.specs.Assembly.{assemblyCalled};
 ghost use Rattle.witness.specs.Reading.{reading};
-ghost use Rattle.compare.specs.Numbers.{reply, fillReply};
+ghost use Rattle.compare.specs.Replies.{reply, fillReply};
 ghost use Rattle.compare.specs.Records.{recordOf, kindOf, romRowOf, rowReply, readingNumber};
 use crate::fills::asked_number;
 use witness::branch::BranchReading;

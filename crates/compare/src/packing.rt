@@ -1,7 +1,7 @@
 // The packed words of a batch.
 ghost use mathlib.Core.Path.{_≡_};
 ghost use Rattle.packed.specs.Packed.{packCalled};
-ghost use Rattle.compare.specs.Numbers.{reply, packingNumber, packReply};
+ghost use Rattle.compare.specs.Replies.{reply, packingNumber, packReply};
 use crate::check::refused_at;
 use packed::Packing;
 

@@ -1,7 +1,9 @@
 // The search for a row in any words, and the words of a part, one at a time.
 ghost use mathlib.Core.Path.{_≡_};
 ghost use Rattle.circuit.specs.Found.{found, partOf};
-ghost use Rattle.compare.specs.Numbers.{entryOf, chosenRelation, chosenPlace, foundNumber, sought};
+ghost use Rattle.compare.specs.Numbers.{entryOf};
+ghost use Rattle.compare.specs.Replies.{chosenRelation};
+ghost use Rattle.compare.specs.RowReplies.{chosenPlace, foundNumber, sought};
 use crate::check::chosen_relation;
 use crate::one_of;
 use crate::reader::end_number;

@@ -2,7 +2,7 @@
 use mathlib.Core.Path.{sym, ap, _∙_}
 use native.Mathlib.Omega.{arith}
 use borrow.Author.Needs.{needs}
-use Rattle.compare.specs.Numbers.{bitNumber}
+use Rattle.compare.specs.Replies.{bitNumber}
 use Rattle.compare.proofs.check.bit_number.Statement.{statement}
 use Rattle.compare.proofs.check.bit_number.Tie as tie
 

@@ -1,7 +1,7 @@
 -- Each arm knows what the answer is.
 use mathlib.Core.Path.{sym, ap, _∙_}
 use borrow.Author.Needs.{needs}
-use Rattle.compare.specs.Numbers.{checkNumber}
+use Rattle.compare.specs.Replies.{checkNumber}
 use Rattle.compare.proofs.check.check_number.Statement.{statement}
 use Rattle.compare.proofs.check.check_number.Tie as tie
 

@@ -5,7 +5,7 @@ use borrow.Author.Tests.{lt-ltb, le-ltb}
 use denote.Ref.{now}
 use Rattle.base.specs.Laws.Tests.{passed, refused}
 use Rattle.verdict.specs.Apply.{applied}
-use Rattle.compare.specs.Numbers.{sumsReply}
+use Rattle.compare.specs.Replies.{sumsReply}
 use Rattle.compare.proofs.check.compare_apply.Statement.{statement}
 use Rattle.compare.proofs.check.compare_apply.Tie as tie
 

@@ -18,7 +18,7 @@ use Rattle.verdict.specs.declared.bits.BitAnswer.{BitAnswer}
 use Rattle.verdict.specs.declared.bits.BitAnswer.the-variants.{AllBits, Refused}
 use Rattle.base.specs.Tests.{firstFrom}
 use Rattle.verdict.specs.Bits.{aboveOne, placed, bitTested}
-use Rattle.compare.specs.Numbers.{bitNumber}
+use Rattle.compare.specs.Replies.{bitNumber}
 use Rattle.compare.proofs.check.compare_bit_test.Statement.{statement}
 use Rattle.compare.proofs.check.compare_bit_test.Tie as tie
 

@@ -2,7 +2,7 @@
 -- Assumes nothing.
 use mathlib.Core.Path.{refl, ap, ap₂, _∙_}
 use borrow.Author.Needs.{needs}
-use Rattle.compare.specs.Numbers.{reply, checkReply}
+use Rattle.compare.specs.Replies.{reply, checkReply}
 use Rattle.compare.proofs.check.compare_check_row.Statement.{statement}
 use Rattle.compare.proofs.check.compare_check_row.Tie as tie
 

@@ -1,7 +1,7 @@
 -- The number of what the call gives; the batch is what the call left.
 use mathlib.Core.Path.{refl, ap, ap₂, _∙_}
 use borrow.Author.Needs.{needs}
-use Rattle.compare.specs.Numbers.{reply, fillCheckReply}
+use Rattle.compare.specs.Replies.{reply, fillCheckReply}
 use Rattle.compare.proofs.check.compare_fill_and_check.Statement.{statement}
 use Rattle.compare.proofs.check.compare_fill_and_check.Tie as tie
 

@@ -2,7 +2,7 @@
 use mathlib.Core.Path.{refl, sym, ap, ap₂, _∙_}
 use borrow.Author.Needs.{needs}
 use denote.Ref.{now}
-use Rattle.compare.specs.Numbers.{reply, sumsReply}
+use Rattle.compare.specs.Replies.{reply, sumsReply}
 use Rattle.compare.proofs.check.put_sums.Statement.{statement}
 use Rattle.compare.proofs.check.put_sums.Tie as tie
 

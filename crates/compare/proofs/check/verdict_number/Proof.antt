@@ -3,7 +3,7 @@
 use mathlib.Core.Path.{sym, ap}
 use native.Mathlib.Omega.{arith}
 use borrow.Author.Needs.{needs}
-use Rattle.compare.specs.Numbers.{verdictNumber}
+use Rattle.compare.specs.Replies.{verdictNumber}
 use Rattle.compare.proofs.check.verdict_number.Statement.{statement}
 use Rattle.compare.proofs.check.verdict_number.Tie as tie
 

@@ -9,7 +9,7 @@ use lib.ListN.{length, drop, length-set}
 use lib.Seq.{sets, sets-eq}
 use Rattle.field.specs.Gf.{low, high}
 use Rattle.verdict.specs.declared.Sums.{Sums}
-use Rattle.compare.specs.Numbers.{sumWords}
+use Rattle.compare.specs.Replies.{sumWords}
 use Rattle.compare.proofs.check.write_sums.Statement.{statement}
 use Rattle.compare.proofs.check.write_sums.Tie as tie
 

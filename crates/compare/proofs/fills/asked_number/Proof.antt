@@ -1,7 +1,7 @@
 -- Each arm knows what the answer is.
 use mathlib.Core.Path.{sym, ap, _∙_}
 use borrow.Author.Needs.{needs}
-use Rattle.compare.specs.Numbers.{askedNumber}
+use Rattle.compare.specs.Replies.{askedNumber}
 use Rattle.compare.proofs.fills.asked_number.Statement.{statement}
 use Rattle.compare.proofs.fills.asked_number.Tie as tie
 

@@ -1,7 +1,7 @@
 -- The number of what the call gives; the batch is what the call left.
 use mathlib.Core.Path.{refl, ap, ap₂, _∙_}
 use borrow.Author.Needs.{needs}
-use Rattle.compare.specs.Numbers.{reply, fillReply}
+use Rattle.compare.specs.Replies.{reply, fillReply}
 use Rattle.compare.proofs.fills.compare_fill.Statement.{statement}
 use Rattle.compare.proofs.fills.compare_fill.Tie as tie
 

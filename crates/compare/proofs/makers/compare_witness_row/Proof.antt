@@ -7,7 +7,7 @@ use Rattle.base.specs.Laws.Tests.{passed, refused}
 use Rattle.witness.specs.declared.records.CycleRecord.{CycleRecord}
 use Rattle.witness.specs.declared.records.RomRow.{RomRow}
 use Rattle.witness.specs.Row.{rowCalled}
-use Rattle.compare.specs.Numbers.{reply, fillReply}
+use Rattle.compare.specs.Replies.{reply, fillReply}
 use Rattle.compare.proofs.makers.compare_witness_row.Statement.{statement}
 use Rattle.compare.proofs.makers.compare_witness_row.Tie as tie
 

@@ -1,6 +1,6 @@
 -- The number of what the call gives; the packed slice is what the call left.
 use mathlib.Core.Path.{refl, ap, ap₂, _∙_}
-use Rattle.compare.specs.Numbers.{reply, packReply}
+use Rattle.compare.specs.Replies.{reply, packReply}
 use borrow.Author.Needs.{needs}
 use Rattle.compare.proofs.packing.compare_pack_named.Statement.{statement}
 use Rattle.compare.proofs.packing.compare_pack_named.Tie as tie

@@ -1,6 +1,6 @@
 -- Each arm knows what the answer is.
 use mathlib.Core.Path.{sym, ap, _∙_}
-use Rattle.compare.specs.Numbers.{packingNumber}
+use Rattle.compare.specs.Replies.{packingNumber}
 use borrow.Author.Needs.{needs}
 use Rattle.compare.proofs.packing.packing_number.Statement.{statement}
 use Rattle.compare.proofs.packing.packing_number.Tie as tie

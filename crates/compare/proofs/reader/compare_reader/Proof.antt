@@ -6,7 +6,8 @@ use borrow.Author.Tests.{lt-ltb, le-ltb}
 use denote.Ref.{now}
 use lib.ListN.{drop}
 use Rattle.base.specs.Laws.Tests.{passed, refused}
-use Rattle.compare.specs.Numbers.{reply, askedNumber, twoRows, rowWords}
+use Rattle.compare.specs.Replies.{reply, askedNumber}
+use Rattle.compare.specs.RowReplies.{twoRows, rowWords}
 use Rattle.compare.proofs.reader.compare_reader.Statement.{statement}
 use Rattle.compare.proofs.reader.compare_reader.Tie as tie
 

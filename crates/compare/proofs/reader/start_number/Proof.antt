@@ -1,7 +1,7 @@
 -- Each arm knows what the place is.
 use mathlib.Core.Path.{sym, ap, _∙_}
 use borrow.Author.Needs.{needs}
-use Rattle.compare.specs.Numbers.{startNumber}
+use Rattle.compare.specs.RowReplies.{startNumber}
 use Rattle.compare.proofs.reader.start_number.Statement.{statement}
 use Rattle.compare.proofs.reader.start_number.Tie as tie
 

@@ -29,7 +29,8 @@ use Rattle.circuit.proofs.reader.RowAnswer as R
 use Rattle.circuit.proofs.Lending as lending
 use Rattle.circuit.proofs.reader.ListingReader.open as opening
 use Rattle.circuit.proofs.reader.ListingReader.row
-use Rattle.compare.specs.Numbers.{entryOf, twoRows}
+use Rattle.compare.specs.Numbers.{entryOf}
+use Rattle.compare.specs.RowReplies.{twoRows}
 use Rattle.compare.specs.declared.reader.TwoRows.{TwoRows}
 use Rattle.compare.proofs.reader.TwoRows as P
 use Rattle.compare.proofs.search.word_at

@@ -8,7 +8,7 @@ use denote.Ref.{now}
 use lib.ListN.{length, drop, length-set}
 use lib.Seq.{sets, sets-eq}
 use Rattle.compare.specs.declared.reader.TwoRows.{TwoRows}
-use Rattle.compare.specs.Numbers.{startNumber, endNumber, rowWords}
+use Rattle.compare.specs.RowReplies.{startNumber, endNumber, rowWords}
 use Rattle.compare.proofs.reader.write_rows.Statement.{statement}
 use Rattle.compare.proofs.reader.write_rows.Tie as tie
 

@@ -3,7 +3,7 @@
 use mathlib.Core.Path.{ap, _∙_}
 use borrow.Author.Needs.{needs}
 use denote.Ref.{now}
-use Rattle.compare.specs.Numbers.{foundNumber, sought}
+use Rattle.compare.specs.RowReplies.{foundNumber, sought}
 use Rattle.compare.proofs.search.compare_find_row.Statement.{statement}
 use Rattle.compare.proofs.search.compare_find_row.Tie as tie
 
