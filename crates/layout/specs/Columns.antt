@@ -5,25 +5,20 @@ use Prim.Native.Nat.{ℕ, _+_, _-_, _/_}
 
 -- ---- how many bits a word has, and each field of the instruction bus
 
--- a word
 abbrev pub W-BITS : ℕ
-W-BITS = 64
+W-BITS = 64  -- a word
 
--- opcode
 abbrev pub OP-BITS : ℕ
-OP-BITS = 7
+OP-BITS = 7  -- opcode
 
--- index of a register
 abbrev pub IDX-BITS : ℕ
-IDX-BITS = 6
+IDX-BITS = 6  -- index of a register
 
--- funct3
 abbrev pub FUNCT3-BITS : ℕ
-FUNCT3-BITS = 3
+FUNCT3-BITS = 3  -- funct3
 
--- immediate
 abbrev pub IMM-BITS : ℕ
-IMM-BITS = 13
+IMM-BITS = 13  -- immediate
 
 -- the widths above, in that order
 unfoldable pub fieldWidths : List ℕ
@@ -31,169 +26,130 @@ fieldWidths = W-BITS ∷ OP-BITS ∷ IDX-BITS ∷ FUNCT3-BITS ∷ IMM-BITS ∷ [
 
 -- ---- the halves of a row z = (w, 1, x): the witness columns, the one column, the public values
 
--- witness columns of a cycle
 abbrev pub W-COLS : ℕ
-W-COLS = 2048
+W-COLS = 2048  -- witness columns of a cycle
 
--- the one column: the first public one
 abbrev pub ONE-COL : ℕ
-ONE-COL = W-COLS
+ONE-COL = W-COLS  -- the one column: the first public one
 
--- all columns of a row
 abbrev pub M : ℕ
-M = 4096
+M = 4096  -- all columns of a row
 
--- public values of a row
 abbrev pub X-COLS : ℕ
-X-COLS = M / 2 - 1
+X-COLS = M / 2 - 1  -- public values of a row
 
 -- ---- words of 64 bits, low bit first: the column of bit 0
 
--- first source register
 abbrev pub RS1 : ℕ
-RS1 = 0
+RS1 = 0  -- first source register
 
--- second source register
 abbrev pub RS2 : ℕ
-RS2 = 64
+RS2 = 64  -- second source register
 
--- destination register
 abbrev pub RD : ℕ
-RD = 128
+RD = 128  -- destination register
 
--- the memory word at the access address
 abbrev pub LOAD-VAL : ℕ
-LOAD-VAL = 192
+LOAD-VAL = 192  -- the memory word at the access address
 
--- what the shifter gives
 abbrev pub SHIFT-OUT : ℕ
-SHIFT-OUT = 256
+SHIFT-OUT = 256  -- what the shifter gives
 
--- first operand of the adder
 abbrev pub T1 : ℕ
-T1 = 320
+T1 = 320  -- first operand of the adder
 
--- second operand of the adder
 abbrev pub T2 : ℕ
-T2 = 384
+T2 = 384  -- second operand of the adder
 
--- carry into each bit of the adder
 abbrev pub CARRY-OFF : ℕ
-CARRY-OFF = 448
+CARRY-OFF = 448  -- carry into each bit of the adder
 
--- what the ALU gives
 abbrev pub ALU : ℕ
-ALU = 512
+ALU = 512  -- what the ALU gives
 
--- copy of RS1
 abbrev pub SHIFT-SRC : ℕ
-SHIFT-SRC = 576
+SHIFT-SRC = 576  -- copy of RS1
 
--- copy of LOAD_VAL
 abbrev pub STORE-OLD : ℕ
-STORE-OLD = 640
+STORE-OLD = 640  -- copy of LOAD_VAL
 
--- copy of RS2
 abbrev pub STORE-SRC : ℕ
-STORE-SRC = 704
+STORE-SRC = 704  -- copy of RS2
 
 -- ---- flags, offset, addresses and the instruction
 
--- 16 flag bits
 abbrev pub FLAGS : ℕ
-FLAGS = 768
+FLAGS = 768  -- 16 flag bits
 
--- byte offset of an access, 3 bits
 abbrev pub OFF : ℕ
-OFF = 784
+OFF = 784  -- byte offset of an access, 3 bits
 
--- word address of an access, 8 bits
 abbrev pub RAM-ADDR : ℕ
-RAM-ADDR = 792
+RAM-ADDR = 792  -- word address of an access, 8 bits
 
--- micro-PC, 8 bits
 abbrev pub PC : ℕ
-PC = 800
+PC = 800  -- micro-PC, 8 bits
 
--- the instruction bus, 64 bits: 808..831 stay empty, so that it is aligned
 abbrev pub FETCH : ℕ
-FETCH = 832
+FETCH = 832  -- the instruction bus, 64 bits: 808..831 stay empty, so that it is aligned
 
 -- ---- the flags
 
--- subtract
 abbrev pub SUB : ℕ
-SUB = FLAGS
+SUB = FLAGS  -- subtract
 
--- write the destination register
 abbrev pub WE : ℕ
-WE = FLAGS + 1
+WE = FLAGS + 1  -- write the destination register
 
--- load
 abbrev pub IS-LOAD : ℕ
-IS-LOAD = FLAGS + 2
+IS-LOAD = FLAGS + 2  -- load
 
--- store
 abbrev pub IS-STORE : ℕ
-IS-STORE = FLAGS + 3
+IS-STORE = FLAGS + 3  -- store
 
--- arithmetic: the adder gives ALU
 abbrev pub IS-ARITH : ℕ
-IS-ARITH = FLAGS + 4
+IS-ARITH = FLAGS + 4  -- arithmetic: the adder gives ALU
 
--- the program ends: derived
 abbrev pub HALT : ℕ
-HALT = FLAGS + 5
+HALT = FLAGS + 5  -- the program ends: derived
 
--- shift: the shifter gives ALU
 abbrev pub IS-SHIFT : ℕ
-IS-SHIFT = FLAGS + 6
+IS-SHIFT = FLAGS + 6  -- shift: the shifter gives ALU
 
--- logic: named by no row
 abbrev pub IS-LOGIC : ℕ
-IS-LOGIC = FLAGS + 7
+IS-LOGIC = FLAGS + 7  -- logic: named by no row
 
--- load of a byte
 abbrev pub LD-BYTE : ℕ
-LD-BYTE = FLAGS + 8
+LD-BYTE = FLAGS + 8  -- load of a byte
 
--- load of two bytes
 abbrev pub LD-HALF : ℕ
-LD-HALF = FLAGS + 9
+LD-HALF = FLAGS + 9  -- load of two bytes
 
--- load of all 64 bits
 abbrev pub LD-WORD : ℕ
-LD-WORD = FLAGS + 10
+LD-WORD = FLAGS + 10  -- load of all 64 bits
 
--- the branch is taken: derived
 abbrev pub TAKEN : ℕ
-TAKEN = FLAGS + 11
+TAKEN = FLAGS + 11  -- the branch is taken: derived
 
 -- ---- fields of the instruction bus: the column of each one's bit 0
 
--- opcode, 7 bits
 abbrev pub FETCH-OP : ℕ
-FETCH-OP = FETCH
+FETCH-OP = FETCH  -- opcode, 7 bits
 
--- index of rd, 6 bits
 abbrev pub FETCH-RD : ℕ
-FETCH-RD = FETCH + 7
+FETCH-RD = FETCH + 7  -- index of rd, 6 bits
 
--- index of rs1, 6 bits
 abbrev pub FETCH-RS1 : ℕ
-FETCH-RS1 = FETCH + 13
+FETCH-RS1 = FETCH + 13  -- index of rs1, 6 bits
 
--- index of rs2, 6 bits
 abbrev pub FETCH-RS2 : ℕ
-FETCH-RS2 = FETCH + 19
+FETCH-RS2 = FETCH + 19  -- index of rs2, 6 bits
 
--- funct3, 3 bits
 abbrev pub FETCH-FUNCT3 : ℕ
-FETCH-FUNCT3 = FETCH + 25
+FETCH-FUNCT3 = FETCH + 25  -- funct3, 3 bits
 
--- immediate, 13 bits
 abbrev pub FETCH-IMM : ℕ
-FETCH-IMM = FETCH + 28
+FETCH-IMM = FETCH + 28  -- immediate, 13 bits
 
 -- ---- the derived columns of byte lanes, 8 a name, one a lane, and two gates; src/columns.rt says what the rows make of each
 

@@ -20,7 +20,8 @@ use Rattle.circuit.specs.Laws.House.{words-read, counts}
 use Rattle.verdict.specs.declared.CheckAnswer.the-variants.{Refused}
 use Rattle.verdict.specs.Row.{cycleOf}
 use Rattle.verdict.specs.Check.{Constraint, ofRelation, constraints, met, run, judged, houseChecked}
-use Rattle.verdict.specs.Laws.Verdicts.{Outcome, all-met, one-fails, outcome, constraint-count}
+use Rattle.verdict.specs.Laws.Run.{Outcome, all-met, one-fails, outcome}
+use Rattle.verdict.specs.Laws.Verdicts.{constraint-count}
 use Rattle.cellprism.specs.Bytes.{wordsOf}
 use Rattle.cellprism.specs.Answer.{rowChecked}
 use Rattle.cellprism.specs.Exact.{batchRowOf, Small, Exact}

@@ -31,7 +31,8 @@ use Rattle.verdict.specs.Row.{elementAt, cycleOf, holds, bitsOf}
 use Rattle.verdict.specs.Named.{namedBy, named as namedIn}
 use Rattle.verdict.specs.Check.{met, constraints, judged}
 use Rattle.verdict.specs.Laws.Named.{holds-depends}
-use Rattle.verdict.specs.Laws.Verdicts.{run-same, every-constraint}
+use Rattle.verdict.specs.Laws.Run.{run-same}
+use Rattle.verdict.specs.Laws.Verdicts.{every-constraint}
 use Rattle.step.specs.Filling.{putEach}
 use Rattle.step.specs.Laws.FillingElements.{each-length, each-other, each-here}
 use Rattle.packed.specs.Packed.{namedWord}

@@ -16,7 +16,7 @@ use Rattle.circuit.specs.Circuit.{adderRow, copyRows, addressRow, agreeRow, sum
 use Rattle.circuit.specs.Laws.Families.{all-numbered}
 use Rattle.verdict.specs.Row.{holds}
 use Rattle.verdict.specs.Check.{Constraint, inCycle, ofRelation, constraints, met}
-use Rattle.verdict.specs.Laws.Verdicts.{Met}
+use Rattle.verdict.specs.Laws.Run.{Met}
 
 -- ---- the constraints of cycle 0, in their order
 

@@ -32,7 +32,8 @@ use Rattle.verdict.specs.Row.{cycleOf, holds, bitsOf}
 use Rattle.verdict.specs.OverBits.{plain}
 use Rattle.verdict.specs.Named.{named}
 use Rattle.verdict.specs.Check.{Constraint, constraints, met, run, judged, checked}
-use Rattle.verdict.specs.Laws.Verdicts.{Met, run-past, accepts}
+use Rattle.verdict.specs.Laws.Run.{Met, run-past}
+use Rattle.verdict.specs.Laws.Verdicts.{accepts}
 use Rattle.verdict.specs.Laws.Sheet.{checked-is}
 use Rattle.step.specs.Step.{Step, opcode}
 use Rattle.step.specs.Derived.{derived}

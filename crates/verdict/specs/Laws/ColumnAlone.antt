@@ -25,7 +25,7 @@ use Rattle.verdict.specs.Row.{times, sumOf, balanced, holds}
 use Rattle.verdict.specs.Check.{inCycle, met, run}
 use Rattle.verdict.specs.Named.{named}
 use Rattle.verdict.specs.OverBits.{plainRow, holdsBits}
-use Rattle.verdict.specs.Laws.Verdicts.{run-same}
+use Rattle.verdict.specs.Laws.Run.{run-same}
 use Rattle.verdict.specs.Laws.Named.{sum-depends}
 use Rattle.verdict.specs.Laws.OverBits.{holds-bits}
 use Rattle.field.specs.Gf as gf

@@ -30,7 +30,8 @@ use Rattle.verdict.specs.Row.{cycleOf}
 use Rattle.verdict.specs.Check.{inCycle, inCycles, ofRelation, constraints, met, run, judged, checked}
 use Rattle.verdict.specs.Named.{named}
 use Rattle.verdict.specs.OverBits.{plain, sumBits}
-use Rattle.verdict.specs.Laws.Verdicts.{Met, run-stops, run-past, met-run, count-cycles, in-cycles, cycle-fails, answered-yes}
+use Rattle.verdict.specs.Laws.Run.{Met, run-stops, run-past, met-run}
+use Rattle.verdict.specs.Laws.Verdicts.{count-cycles, in-cycles, cycle-fails, answered-yes}
 use Rattle.verdict.specs.Laws.ColumnAlone.{holds-zero, testAlone, allTold, cycle-says}
 use Rattle.verdict.specs.Laws.Sheet.{element-alone}
 use Rattle.field.specs.Gf as gf

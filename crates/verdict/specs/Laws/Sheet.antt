@@ -27,7 +27,8 @@ use Rattle.verdict.specs.Check.{inCycle, inCycles, ofRelation, constrain
 use Rattle.verdict.specs.Named.{named}
 use Rattle.verdict.specs.OverBits.{plain, sumBits}
 use Rattle.verdict.specs.Sheet.{oneRow}
-use Rattle.verdict.specs.Laws.Verdicts.{run-stops, accepts, answered-yes}
+use Rattle.verdict.specs.Laws.Run.{run-stops}
+use Rattle.verdict.specs.Laws.Verdicts.{accepts, answered-yes}
 use Rattle.verdict.specs.Laws.ColumnAlone.{holds-zero, testAlone, allTold, cycle-says}
 use Rattle.field.specs.Gf as gf
 
