@@ -9,6 +9,7 @@
 --     Fields            the bits of fields that stand side by side in a word
 --     First             the search for the first number that passes a test, turn by turn, and what it finds
 --     From              lists made from an index: what is so of all is so at each index, and which element stands where
+--     Joined            lists one after the other: how long they are, and where each stands
 --     Lists             what is so of every element, of lists put together, taken apart or mapped; and of every number below a limit
 --     Numbers           a number and its bits, each from the other, and Booleans that say what a test of numbers says
 --     Sums              equal terms make equal sums
@@ -27,6 +28,7 @@ pub mod Compared
 pub mod Fields
 pub mod First
 pub mod From
+pub mod Joined
 pub mod Lists
 pub mod Numbers
 pub mod Sums

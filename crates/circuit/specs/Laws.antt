@@ -5,7 +5,7 @@
 --     Reader            the reader's position stays inside the listing
 --     Search            the laws of a search through words, for any test, and where a row that is found lies
 --     Valid             what a listing that passes questions 6 to 10 shows of its first word, and of the rest
---     Words             the side of a term by its kind
+--     Words             the side of a term by its kind, and the word of a mark by its relation and row
 pub mod BatchRows
 pub mod Families
 pub mod House

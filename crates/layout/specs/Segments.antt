@@ -1,11 +1,11 @@
 -- The segments of `SEGMENTS_CPU`. A start is the column that `WITNESS_LAYOUT` gives: sums of the lengths would put fetch at 808.
 -- Assumes nothing.
-use mathlib.Core.Bool.{Bool, true, _&&_}
-use mathlib.Core.List.{List, [], _∷_, _++_, map}
+use mathlib.Core.Bool.{Bool, true, _&&_, cond}
+use mathlib.Core.List.{List, [], _∷_, map}
 use Prim.Native.Nat.{ℕ, _+_, _-_}
-use lib.Dec.{leb}
-use lib.ListN.{length, replicate}
-use Rattle.base.specs.Text.{ascii}
+use lib.Dec.{leb, ltb}
+use lib.ListN.{length, getD}
+use Rattle.base.specs.Text.{ascii, left}
 use Rattle.base.specs.Lists.{joined}
 use Rattle.layout.specs.Columns.{W-COLS, RS1, RS2, RD, LOAD-VAL, SHIFT-OUT, T1, T2, CARRY-OFF, ALU, SHIFT-SRC, STORE-OLD, STORE-SRC, FLAGS, OFF, RAM-ADDR, PC, FETCH, EQA, ZERO}
 
@@ -44,7 +44,7 @@ segments =
 
 -- a name filled up with blanks to 9 bytes, the longest
 abbrev pub padded : List ℕ → List ℕ
-padded n = n ++ replicate (9 - length n) 0x20
+padded n = left 9 n
 
 -- the names, starts and lengths, each as one list
 abbrev pub segmentNames : List Segment → List ℕ
@@ -56,8 +56,31 @@ segmentStarts ss = map (λ s. s .start) ss
 abbrev pub segmentLengths : List Segment → List ℕ
 segmentLengths ss = map (λ s. s .columns) ss
 
+-- each name has 9 bytes or fewer
+unfoldable pub fit : List Segment → Bool
+fit [] = true
+fit (s ∷ ss) = leb (length (s .name)) 9 && fit ss
+
 -- each segment ends where the next begins or before, and the last within the cycle's columns
 abbrev pub apart : List Segment → Bool
 apart [] = true
 apart (s ∷ []) = leb (s .start + s .columns) W-COLS
 apart (s ∷ t ∷ ss) = leb (s .start + s .columns) (t .start) && apart (t ∷ ss)
+
+-- ---- the segment that has a column
+
+abbrev pub inSegment : Segment → ℕ → Bool
+inSegment s c = leb (s .start) c && ltb c (s .start + s .columns)
+
+-- the name of the first that has the column, and no bytes where none has it
+unfoldable pub nameIn : List Segment → ℕ → List ℕ
+nameIn [] c = []
+nameIn (s ∷ ss) c = cond (inSegment s c) (s .name) (nameIn ss c)
+
+-- by `SEGMENTS_CPU`: a column in a gap, as 810, has no name, nor has a public one
+unfoldable pub segmentName : ℕ → List ℕ
+segmentName c = nameIn segments c
+
+-- the segment at an index; behind the last, one of no name and no columns
+abbrev pub segmentAt : List Segment → ℕ → Segment
+segmentAt ss i = getD ss i (segment [] 0 0)

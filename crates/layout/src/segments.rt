@@ -21,7 +21,8 @@ use crate::columns::T2;
 use crate::columns::W_BITS;
 use crate::columns::ZERO;
 ghost use mathlib.Core.Path.{_≡_};
-ghost use Rattle.layout.specs.Segments.{segments, segmentNames, segmentStarts, segmentLengths};
+ghost use Prim.Native.Nat.{_≤_};
+ghost use Rattle.layout.specs.Segments.{segments, segmentNames, segmentStarts, segmentLengths, segmentAt, segmentName, padded};
 
 // The names, 9 bytes each, filled up with blanks.
 pub fn segment_names() -> [u8; 171]
@@ -80,4 +81,39 @@ pub fn segment_lengths() -> [usize; 19]
         64,
         1024,
     ]
+}
+
+// The index of the segment that has the column, or 19 where none has it: the name there is the column's.
+fn segment_index(column: usize) -> usize
+    ensures { λ r. ⌜ (r ≤ 19) × ((segmentAt segments r) .name ≡ segmentName column) ⌝ }
+{
+    let starts = segment_starts();
+    let lengths = segment_lengths();
+    let mut i: usize = 0;
+    while i < 19 {
+        let start = starts[i];
+        if (start <= column) & (column < start + lengths[i]) {
+            return i;
+        }
+        i = i + 1;
+    }
+    i
+}
+
+// The name of the segment that has the column, and blanks where none has it: in a gap, and from the one column on.
+pub fn segment_name(column: usize) -> [u8; 9]
+    ensures { λ r. ⌜ r ≡ padded (segmentName column) ⌝ }
+{
+    let mut name = *b"         ";
+    let i = segment_index(column);
+    if i == 19 {
+        return name;
+    }
+    let names = segment_names();
+    let mut k: usize = 0;
+    while k < 9 {
+        name[k] = names[9 * i + k];
+        k = k + 1;
+    }
+    name
 }

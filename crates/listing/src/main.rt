@@ -1,34 +1,16 @@
 // Prints each word of the house listing as 8 lower-case hex digits and a line end.
 ghost use mathlib.Core.Path.{_≡_};
-ghost use Prim.Native.Nat.{_<_};
-ghost use Rattle.listing.specs.Hex.{hexDigit, lineOf};
+ghost use Rattle.listing.specs.Hex.{lineOf};
 use libc::STDOUT_FILENO;
 
-fn hex_digit(n: u32) -> u8
-    requires { ⌜ n < 16 ⌝ }
-    ensures { λ r. ⌜ r ≡ hexDigit n ⌝ }
-{
-    if n < 10 {
-        b'0' + n as u8
-    } else {
-        b'a' - 10 + n as u8
-    }
-}
-
+// The digits over line ends: the last one stays.
 fn line(w: u32) -> [u8; 9]
     ensures { λ r. ⌜ r ≡ lineOf w ⌝ }
 {
-    [
-        hex_digit((w >> 28) % 16),
-        hex_digit((w >> 24) % 16),
-        hex_digit((w >> 20) % 16),
-        hex_digit((w >> 16) % 16),
-        hex_digit((w >> 12) % 16),
-        hex_digit((w >> 8) % 16),
-        hex_digit((w >> 4) % 16),
-        hex_digit(w % 16),
-        b'\n',
-    ]
+    let digits = text::hex_digits(w as u64);
+    let mut line = [b'\n'; 9];
+    text::put(&mut line, 0, &digits[8..]);
+    line
 }
 
 fn main() {

@@ -6,9 +6,9 @@ use Prim.Native.Nat.{ℕ}
 use lib.ListN.{length, set, replicate}
 use Rattle.base.specs.Text.{ascii}
 use Rattle.cellprism.specs.Answer.{rowChecked}
-use Rattle.rowcheck.specs.Text.{lineOf}
+use Rattle.page.specs.Line.{answerLine}
 
 pub record Lines : Type 0 where
-  pub other : (bytes : List ℕ) → (length bytes ≡ 65536 → ⊥) → lineOf (rowChecked bytes) ≡ ascii "refused 2\n"
-  pub zeros : lineOf (rowChecked (replicate 65536 0)) ≡ ascii "accepted rows=514\n"
-  pub one : lineOf (rowChecked (set (replicate 65536 0) 32768 1)) ≡ ascii "failed bin row=263 rows=264\n"
+  pub other : (bytes : List ℕ) → (length bytes ≡ 65536 → ⊥) → answerLine (rowChecked bytes) ≡ ascii "refused 2\n"
+  pub zeros : answerLine (rowChecked (replicate 65536 0)) ≡ ascii "accepted rows=514\n"
+  pub one : answerLine (rowChecked (set (replicate 65536 0) 32768 1)) ≡ ascii "failed bin row=263 rows=264\n"

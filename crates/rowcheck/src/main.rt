@@ -1,6 +1,4 @@
 // Reads one row from standard input and prints the verdict of the check.
-mod text;
-
 use libc::STDIN_FILENO;
 use libc::STDOUT_FILENO;
 
@@ -10,6 +8,6 @@ fn main() {
     let n = io::read_full(STDIN_FILENO, &mut row);
     let answer = cellprism::check_bytes(&row[..n]);
     let mut line = [0u8; 64];
-    let end = text::put_answer(&mut line, answer);
+    let end = page::line::put_answer(&mut line, 0, answer);
     io::write_all(STDOUT_FILENO, &line[..end]);
 }

@@ -8,8 +8,10 @@
 --     OverBits          over columns that hold 0 or 1, a row whose coefficients are 0 or 1 says over the field what it says over bits
 --     Row               a bit of a cycle, read from the batch
 --     RowParts          what parsing gives of a row is what its runs of terms give
+--     RowsFound         in a listing in order every row is the one that the search finds by its relation and row number
 --     Run               the walk over constraints, for any test: all are met, or which is the first that is not, and the count
 --     Sheet             P4 and P5 of the bench sheet, of the check's own result
+--     Shown             what a failing verdict names: the cycle, the row that the search finds, and that it does not hold there
 --     SideSums          the laws of a side's sum: it is proper, and sides one after the other add up
 --     Split             the index that splits a listing in order into the words of its bin rows and those of its fld rows
 --     StillToTest       what is left to be tested, from one loop to the next, and the verdict from there on
@@ -23,8 +25,10 @@ pub mod Order
 pub mod OverBits
 pub mod Row
 pub mod RowParts
+pub mod RowsFound
 pub mod Run
 pub mod Sheet
+pub mod Shown
 pub mod SideSums
 pub mod Split
 pub mod StillToTest

@@ -1,16 +1,17 @@
 -- The laws of a search through words, for any test, and where a row that is found lies.
 -- Assumes nothing.
-use mathlib.Core.Path.{_≡_, refl}
+use mathlib.Core.Path.{_≡_, refl, sym, _∙_}
 use mathlib.Core.Bool.{Bool, true, false, cond}
 use mathlib.Core.List.{List, [], _∷_}
-use Prim.Native.Nat.{ℕ, suc, _+_, _<_, _≤_}
+use Prim.Native.Nat.{ℕ, zero, suc, _+_, _<_, _≤_}
 use native.Mathlib.Nat.{add-zero, not-suc-le-zero, le-of-suc-le-suc}
 use native.Mathlib.Numerals.{add-one}
 use native.Mathlib.Omega.{arith}
-use borrow.Author.Tests.{ltb-true}
+use borrow.Author.Tests.{ltb-true, lt-ltb}
 use lib.Dec.{ltb}
 use lib.ListN.{length, getD, drop, drop-of-length-le, length-drop}
 use lib.Seq.{drop-cons}
+use Rattle.base.specs.Laws.Tests.{passed}
 use Rattle.layout.specs.Questions.{no}
 use Rattle.circuit.specs.declared.Relation.{Relation}
 use Rattle.circuit.specs.declared.Relation.the-variants.{Bin, Fld}
@@ -61,6 +62,18 @@ until-finds p (w ∷ ws) h = by-test (p w) refl (until-finds p ws) h
     by-test true e later l = e
     by-test false e later l = later (le-of-suc-le-suc l)
 
+-- what it goes past does not
+pub until-past : (p : ℕ → Bool) (ws : List ℕ) (k : ℕ) → k < until p ws → p (getD ws k 0) ≡ false
+unfolding until
+until-past p [] k h = absurd (not-suc-le-zero h)
+until-past p (w ∷ ws) k h = by-test (p w) refl k (until-past p ws) h
+  where
+    by-test : (b : Bool) → p w ≡ b → (i : ℕ) → ((j : ℕ) → j < until p ws → p (getD ws j 0) ≡ false)
+        → i < cond b 0 (suc (until p ws)) → p (getD (w ∷ ws) i 0) ≡ false
+    by-test true e i later l = absurd (not-suc-le-zero l)
+    by-test false e zero later l = e
+    by-test false e (suc i) later l = later i (le-of-suc-le-suc l)
+
 -- what is found has its mark, and ends in the listing
 abbrev pub Within : List ℕ → Found → Type 0
 Within ws (At start end) = (start < end) × (end ≤ length ws)
@@ -83,3 +96,12 @@ found-within ws rel n = by-test (ltb n (rowsACycle rel))
     by-test : (b : Bool) → Within ws (cond b (rowAt ws (until (isWord (markWord rel n)) ws)) (Refused (no 13 0)))
     by-test true = row-within ws (until (isWord (markWord rel n)) ws)
     by-test false = tt
+
+-- a row that its relation can have is found at the first word that is its mark's, where there is one
+pub found-first : (ws : List ℕ) (rel : Relation) (n : ℕ) → n < rowsACycle rel → until (isWord (markWord rel n)) ws < length ws
+    → found ws rel n
+    ≡ At (until (isWord (markWord rel n)) ws)
+    (until (isWord (markWord rel n)) ws + 1 + until isMark (drop (until (isWord (markWord rel n)) ws + 1) ws))
+unfolding found rowAt
+found-first ws rel n few inside =
+    sym (passed _ _ _ (lt-ltb (until (isWord (markWord rel n)) ws) (length ws) inside) ∙ passed _ _ _ (lt-ltb n (rowsACycle rel) few))

@@ -43,7 +43,20 @@ column-cycle cpi c d h m =
 pub column-below : (cpi c d : ℕ) → c < 2048 → d < cpi → columnAt cpi c d < 2048 * cpi
 column-below cpi c d hc hd = rw (witness-column cpi c d hc) (digits-lt hc hd)
 
+-- any column of a cycle's row stands in the batch
+pub column-inside : (cpi c d : ℕ) → c < 4096 → d < cpi → columnAt cpi c d < 4096 * cpi
+column-inside cpi c d hc hd =
+    elim (decLt c 2048) [
+      | yes k ↦ omega (arith, column-below cpi c d k hd)
+      | no f ↦ omega (arith, public-column cpi c d (omega arith))
+    ]
+
 module _ (cpi : ℕ) (ok : allowed cpi ≡ true) where
+  -- the mapping places every column of a cycle of the batch
+  pub mapped-at : (c d : ℕ) → c < 4096 → d < cpi → mapped 4096 cpi c d ≡ At (columnAt cpi c d)
+  unfolding mapped
+  mapped-at c d hc hd = sym (passed _ _ _ (lt-ltb d cpi hd) ∙ passed _ _ _ (lt-ltb c 4096 hc) ∙ passed _ _ _ ok)
+
   -- there and back
   pub back-of-mapped : (c d : ℕ) → c < 2048 → d < cpi → unmapped cpi (columnAt cpi c d) ≡ In c d
   unfolding unmapped

@@ -2,9 +2,10 @@
 -- Assumes nothing.
 use mathlib.Core.Path.{ap}
 use Rattle.cellprism.specs.Laws.Sheet.{other-length, zero-bytes, one-column}
-use Rattle.rowcheck.specs.Text.{decimalIn, lineOf}
+use Rattle.text.specs.Digits.{decimalIn}
+use Rattle.page.specs.Line.{answerLine}
 use Rattle.rowcheck.specs.Sheet.{Lines}
 
 pub lines : Lines
 unfolding decimalIn
-lines = record { other = λ bytes h. ap lineOf (other-length bytes h); zeros = ap lineOf zero-bytes; one = ap lineOf one-column }
+lines = record { other = λ bytes h. ap answerLine (other-length bytes h); zeros = ap answerLine zero-bytes; one = ap answerLine one-column }
