@@ -3,11 +3,14 @@ mod bytes;
 mod short;
 
 use circuit::Relation;
+use layout::Asked;
 use verdict::CheckAnswer;
 use verdict::Verdict;
 ghost use mathlib.Core.Path.{_≡_};
 ghost use Prim.Native.Nat.{_≤_};
+ghost use Rattle.layout.specs.Questions.{Called};
 ghost use Rattle.circuit.specs.Words.{flagWord};
+ghost use Rattle.cellprism.specs.Bytes.{readCalled};
 ghost use Rattle.cellprism.specs.Answer.{rowChecked, verdictWord, answerWord};
 
 // The relation as in a mark.
@@ -56,6 +59,21 @@ pub fn check_bytes(bytes: &[u8]) -> CheckAnswer
     let mut words = [0u64; layout::ROW_WORDS];
     bytes::read_words(bytes, &mut words);
     verdict::check_house(1, &words)
+}
+
+// Reads the bytes of one row into its words: question 2, of both.
+pub fn read_row(bytes: &[u8], words: &mut [u64]) -> Asked
+    ensures { λ r. ⌜ _≡_ {A = Called} (record { answer = r; batch = now (words .exit) })
+        (readCalled (now (bytes .entry)) (now (words .entry))) ⌝ }
+{
+    if bytes.len() != 8 * layout::ROW_WORDS {
+        return Asked::No(layout::refused(2));
+    }
+    if words.len() != layout::ROW_WORDS {
+        return Asked::No(layout::refused(2));
+    }
+    bytes::read_words(bytes, words);
+    Asked::Yes
 }
 
 // What the prover's host calls.
