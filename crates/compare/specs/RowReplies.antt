@@ -1,4 +1,4 @@
--- What the search for a row and the listing reader answer, as numbers.
+-- What the search for a row, the listing reader and the bench page answer, as numbers.
 -- Assumes nothing.
 use mathlib.Core.Bool.{cond}
 use mathlib.Core.List.{List, [], _∷_, _++_}
@@ -12,6 +12,9 @@ use Rattle.circuit.specs.declared.search.Found.the-variants.{At as Stands, Refu
 use Rattle.circuit.specs.Valid.{validated}
 use Rattle.circuit.specs.Found.{found, partOf}
 use Rattle.circuit.specs.Reader.{admitted, positionAfter, rowRead}
+use Rattle.page.specs.declared.BytesAnswer.{BytesAnswer}
+use Rattle.page.specs.declared.BytesAnswer.the-variants.{Of as Bytes, Refused as NoBytes}
+use Rattle.page.specs.Pages.{Laid}
 use Rattle.compare.specs.declared.reader.TwoRows.{TwoRows}
 use Rattle.compare.specs.Numbers.{oneOf, refusedAt, entryOf}
 use Rattle.compare.specs.Replies.{Reply, reply, askedNumber}
@@ -67,3 +70,13 @@ rowWords t =
 -- what the opening answered, and the words over the first eight; with no room for eight nothing is asked, and the answer is 2^63
 abbrev pub readerReply : TwoRows → List ℕ → Reply
 readerReply t out = cond (ltb (length out) 8) (reply (2 ^ 63) out) (reply (askedNumber (t .asked)) (rowWords t ++ drop 8 out))
+
+-- ---- the bench page
+
+abbrev pub bytesNumber : BytesAnswer → ℕ
+bytesNumber (Bytes n) = n
+bytesNumber (NoBytes r) = refusedAt r
+
+-- laid out: 0
+abbrev pub pageReply : Laid → Reply
+pageReply l = reply (askedNumber (l .answer)) (l .page)

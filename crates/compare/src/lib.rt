@@ -4,6 +4,7 @@ pub mod check;
 pub mod fills;
 pub mod makers;
 pub mod packing;
+pub mod pages;
 pub mod reader;
 pub mod reads;
 pub mod search;

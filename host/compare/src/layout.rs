@@ -84,13 +84,18 @@ fn widths(tally: &mut Tally) {
     tally.same(|| "DEFAULT_CPI".into(), product::default_cpi(), right);
 }
 
+/// The constant that each segment starts at, by name, and its column.
+pub fn segment_starts() -> [(&'static str, usize); SEGMENTS] {
+    constants!(from 0;
+        RS1 RS2 RD LOAD_VAL SHIFT_OUT T1 T2 CARRY_OFF ALU SHIFT_SRC STORE_OLD STORE_SRC
+        FLAGS OFF RAM_ADDR PC FETCH EQA ZERO)
+}
+
 /// Twice: by the constants, and by the original's rule that offsets are aligned to the lengths.
 fn starts(tally: &mut Tally) {
-    let columns = constants!(from 0;
-        RS1 RS2 RD LOAD_VAL SHIFT_OUT T1 T2 CARRY_OFF ALU SHIFT_SRC STORE_OLD STORE_SRC
-        FLAGS OFF RAM_ADDR PC FETCH EQA ZERO);
+    let starts = segment_starts();
     let mut end: usize = 0;
-    for (i, (&(name, length, _), (constant, start))) in SEGMENTS_CPU.iter().zip(columns).enumerate()
+    for (i, (&(name, length, _), (constant, start))) in SEGMENTS_CPU.iter().zip(starts).enumerate()
     {
         let seen = product::segment(i, START);
         let place = || format!("start of {name}");

@@ -13,6 +13,7 @@ mod layout;
 mod listing;
 mod numbers;
 mod original;
+mod page;
 mod parallel;
 mod report;
 mod rows;
@@ -34,6 +35,7 @@ fn main() -> ExitCode {
     println!("batches to be judged: {}", verdict::batches_judged());
     println!("batches to be filled: {}", filler::batches_filled());
     println!("rows to be made: {}", witness::rows_made());
+    println!("rows to be laid out on pages: {}", page::rows_laid_out());
     let mut tests = field::tests();
     tests.extend(columns::tests());
     tests.extend(layout::tests());
@@ -44,5 +46,6 @@ fn main() -> ExitCode {
     tests.extend(verdict::tests());
     tests.extend(filler::tests());
     tests.extend(witness::tests());
+    tests.extend(page::tests());
     report::run_all(&tests)
 }

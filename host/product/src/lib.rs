@@ -88,6 +88,24 @@ mod c {
             out: *mut u64,
             out_len: usize,
         ) -> u64;
+        pub fn compare_page(
+            cpi: usize,
+            listing: *const u32,
+            listing_len: usize,
+            batch: *const u64,
+            batch_len: usize,
+            relation: u32,
+            row: usize,
+            cycle: usize,
+            page: *mut u8,
+            page_len: usize,
+        ) -> u64;
+        pub fn compare_page_bytes(
+            listing: *const u32,
+            listing_len: usize,
+            relation: u32,
+            row: usize,
+        ) -> u64;
         pub fn compare_bit_test(cpi: usize, batch: *const u64, batch_len: usize) -> u64;
         pub fn compare_reader(
             listing: *const u32,
@@ -386,6 +404,37 @@ pub fn apply(
             out.len(),
         )
     }
+}
+
+/// Lays a row in a cycle out on pages and returns 0. Refused: 2^63 + number · 2^32 + place.
+pub fn page(
+    cpi: usize,
+    listing: &[u32],
+    batch: &[u64],
+    row: Row,
+    cycle: usize,
+    page: &mut [u8],
+) -> u64 {
+    unsafe {
+        c::compare_page(
+            cpi,
+            listing.as_ptr(),
+            listing.len(),
+            batch.as_ptr(),
+            batch.len(),
+            row.relation,
+            row.row,
+            cycle,
+            page.as_mut_ptr(),
+            page.len(),
+        )
+    }
+}
+
+/// How many bytes the pages of a row take.
+pub fn page_bytes(listing: &[u32], row: Row) -> Answer {
+    let (words, len) = (listing.as_ptr(), listing.len());
+    answer(unsafe { c::compare_page_bytes(words, len, row.relation, row.row) })
 }
 
 /// 0 where every column below one_col is 0 or 1. Else 2^62 + cycle · 2^48 + column · 2^32 + batch

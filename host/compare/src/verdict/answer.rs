@@ -1,5 +1,5 @@
-//! The numbers that the check, the sums, the bit test and the filler answer with, as the boundary
-//! writes them.
+//! The numbers that the check, the sums, the pages, the bit test and the filler answer with, as the
+//! boundary writes them.
 
 pub use product::Refusal;
 
@@ -25,6 +25,8 @@ pub const ROW_SOUGHT: u64 = 13;
 /// A column, or on the way back a batch column or a batch row.
 pub const COLUMN: u64 = 14;
 pub const CYCLE: u64 = 15;
+/// Document 02's, asked after 13.
+pub const PAGE_LENGTH: u64 = 16;
 
 /// Which rows were tested and what came of it.
 #[derive(Clone, Copy, Debug, PartialEq, Eq)]

@@ -1,6 +1,7 @@
 //! Listings as rows, and their two other forms: words for the product, matrices for the original.
 
 use std::array::from_fn;
+use std::ops::Range;
 
 use super::batches::{COLUMNS, ONE_COLUMN};
 use crate::house::{self, Coefficient, Relation, Term, Word};
@@ -198,6 +199,34 @@ pub fn holding(numbers: &mut Numbers, shape: Shape, ones: &[usize]) -> Listing {
     rows_with(numbers, shape.marks, row)
 }
 
+/// Rows of so many terms, shared out between the sides. About half of the rows are of bin, and which
+/// are is drawn.
+pub fn of_lengths(numbers: &mut Numbers, lengths: &[usize]) -> Listing {
+    let fld = lengths.len() / 2;
+    let mut marks = some_of(numbers, lengths.len() - fld, 0..512);
+    marks.extend(some_of(numbers, fld, 512..MARKS));
+    let first = numbers.below(lengths.len() as u64) as usize;
+    let lengths = lengths[first..].iter().chain(&lengths[..first]);
+    let row = |(index, &length)| {
+        let (relation, row) = mark(index);
+        let sides = shared_out(numbers, length);
+        Row {
+            relation,
+            row,
+            sides,
+        }
+    };
+    let rows = marks.into_iter().zip(lengths).map(row).collect();
+    Listing { rows }
+}
+
+fn shared_out(numbers: &mut Numbers, length: usize) -> [Vec<Term>; 3] {
+    let mut ends = [(); 2].map(|()| numbers.below(length as u64 + 1) as usize);
+    ends.sort_unstable();
+    let [a, b] = ends;
+    [a, b - a, length - b].map(|terms| (0..terms).map(|_| term(numbers)).collect())
+}
+
 /// Adds one term to one row, anywhere: it mostly does not hold any more.
 pub fn spoil(numbers: &mut Numbers, listing: &mut Listing) {
     if listing.rows.is_empty() {
@@ -227,15 +256,21 @@ fn rows_with(
 
 /// `count` of the marks there can be, in order.
 fn some_marks(numbers: &mut Numbers, count: usize) -> Vec<Mark> {
-    let mut marks: Vec<usize> = (0..MARKS).collect();
+    let chosen = some_of(numbers, count, 0..MARKS);
+    chosen.into_iter().map(mark).collect()
+}
+
+/// `count` of a range's numbers, in order.
+fn some_of(numbers: &mut Numbers, count: usize, range: Range<usize>) -> Vec<usize> {
+    let mut chosen: Vec<usize> = range.collect();
     // The first `count` of a shuffle.
     for i in 0..count {
-        let j = i + numbers.below((MARKS - i) as u64) as usize;
-        marks.swap(i, j);
+        let j = i + numbers.below((chosen.len() - i) as u64) as usize;
+        chosen.swap(i, j);
     }
-    marks.truncate(count);
-    marks.sort_unstable();
-    marks.into_iter().map(mark).collect()
+    chosen.truncate(count);
+    chosen.sort_unstable();
+    chosen
 }
 
 pub fn mark(index: usize) -> Mark {

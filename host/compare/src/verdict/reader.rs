@@ -28,7 +28,7 @@ const PAST: u64 = 1 << 63;
 const ROWS: usize = BIN_ROWS + FLD_ROWS;
 
 /// Rows that the house listing has not: bin 483 to 511, fld 31, numbers that no mark carries.
-const MISSING: usize = 29 + 1 + TOO_LARGE.len() + TOO_LARGE_FOR_FLD.len() + TOO_LARGE.len();
+pub const MISSING: usize = 29 + 1 + TOO_LARGE.len() + TOO_LARGE_FOR_FLD.len() + TOO_LARGE.len();
 
 /// With bits dropped, or put in a mark as they are, some are rows that the listing has.
 const TOO_LARGE: [usize; 13] = [

@@ -5,10 +5,13 @@ use super::answer::{
     SCRATCH_LENGTH, SIZE, TERM_ORDER,
 };
 use super::batches::COLUMNS;
+use super::damages::{
+    circuit_words, too_long, two_wrong_words, wrong_at_last, Damage, Kind, KINDS, PAIRS, TOO_LONG,
+};
 use super::forms::{CHECK_HOUSE, FORMS};
 use super::judge::{refused, Desk, OF_A_REFUSAL, SCRATCH_WORDS};
 use super::lent::Lent;
-use super::listings::{self, Listing, Shape, MARKS, MOST_WORDS};
+use super::listings::{self, Shape, MARKS, MOST_WORDS};
 use crate::columns::SIZES;
 use crate::house::{self, Relation, Side, Word};
 use crate::numbers::Numbers;
@@ -17,19 +20,15 @@ use crate::report::{test, Tally, Test};
 
 const RANDOM_LISTINGS: usize = 20_000;
 
-/// Words of the circuit's listing between two that are damaged.
-const STRIDE: usize = 37;
-
 pub fn tests() -> Vec<Test> {
-    let damages = |kind: fn(&[u32]) -> Vec<Damage>| kind(&circuit_words()).len() as u64;
-    let over_circuit = |name: &str, kind: fn(&[u32]) -> Vec<Damage>| {
+    let over_circuit = |(name, kind): (&str, Kind)| {
         test(
             format!("check_row refuses {name}"),
-            damages(kind) * OF_A_REFUSAL,
+            kind(&circuit_words()).len() as u64 * OF_A_REFUSAL,
             move |tally| all_damages(tally, kind),
         )
     };
-    vec![
+    let mut tests = vec![
         test(
             "check_row refuses sizes, 1",
             SIZES_REFUSED.len() as u64 * 2 * OF_A_REFUSAL,
@@ -47,7 +46,7 @@ pub fn tests() -> Vec<Test> {
         ),
         test(
             "check_row refuses long listings, 6",
-            9 * 4 * 2 * OF_A_REFUSAL,
+            9 * TOO_LONG as u64 * OF_A_REFUSAL,
             listing_lengths,
         ),
         test(
@@ -55,14 +54,9 @@ pub fn tests() -> Vec<Test> {
             FORMS as u64 * (SIZES_REFUSED.len() as u64 + 9 * 6),
             house_refused,
         ),
-        over_circuit("each must-be-zero bit, 7", must_be_zero_bits),
-        over_circuit("terms before any mark, 8", no_mark),
-        over_circuit(
-            "marks out of order and fld rows from 32, 9",
-            marks_out_of_order,
-        ),
-        over_circuit("terms out of order, 10", terms_out_of_order),
-        over_circuit("two faults in one word, the smaller number", two_faults),
+    ];
+    tests.extend(KINDS.map(over_circuit));
+    tests.extend([
         test(
             "check_row refuses at the last of 16384 words",
             3 * OF_A_REFUSAL,
@@ -70,7 +64,7 @@ pub fn tests() -> Vec<Test> {
         ),
         test(
             "check_row refuses, first of two words first",
-            PAIRS * OF_A_REFUSAL,
+            PAIRS as u64 * OF_A_REFUSAL,
             first_word_first,
         ),
         test(
@@ -83,15 +77,17 @@ pub fn tests() -> Vec<Test> {
             RANDOM_LISTINGS as u64 * OF_A_REFUSAL,
             random_faults,
         ),
-    ]
+    ]);
+    tests
 }
 
-fn circuit_words() -> Vec<u32> {
-    Listing::of_circuit().words()
+/// Six lengths that a slice of so many words must not have.
+pub fn other_lengths(words: usize) -> [usize; 6] {
+    [0, 1, words / 2, words - 1, words + 1, 2 * words]
 }
 
 /// A batch that would be judged: zero.
-fn zero_batch(cpi: usize) -> Lent<u64> {
+pub fn zero_batch(cpi: usize) -> Lent<u64> {
     Lent::of(&vec![0; 2 * COLUMNS * cpi])
 }
 
@@ -100,9 +96,9 @@ fn desk(listing: &[u32]) -> Desk {
 }
 
 /// A listing whose first word is refused by question 7.
-const FAULTY: [u32; 1] = [u32::MAX];
+pub const FAULTY: [u32; 1] = [u32::MAX];
 
-const SIZES_REFUSED: [usize; 16] = [
+pub const SIZES_REFUSED: [usize; 16] = [
     0,
     3,
     5,
@@ -139,7 +135,7 @@ fn batch_lengths(tally: &mut Tally) {
     let mut wrong = Desk::with_scratch(&FAULTY, 1, Numbers::for_test(62));
     for cpi in SIZES {
         let words = 2 * COLUMNS * cpi;
-        for len in [0, 1, words / 2, words - 1, words + 1, 2 * words] {
+        for len in other_lengths(words) {
             let mut batch = Lent::of(&vec![0; len]);
             let place = || format!("{len} words for {cpi} cycles");
             for desk in [&mut right, &mut wrong] {
@@ -165,7 +161,7 @@ fn house_refused(tally: &mut Tally) {
     }
     for cpi in SIZES {
         let words = 2 * COLUMNS * cpi;
-        for len in [0, 1, words / 2, words - 1, words + 1, 2 * words] {
+        for len in other_lengths(words) {
             same(cpi, len, BATCH_LENGTH);
         }
     }
@@ -174,15 +170,7 @@ fn house_refused(tally: &mut Tally) {
 fn scratch_lengths(tally: &mut Tally) {
     for cpi in SIZES {
         let mut batch = zero_batch(cpi);
-        let few = SCRATCH_WORDS / 2;
-        for len in [
-            0,
-            1,
-            few,
-            SCRATCH_WORDS - 1,
-            SCRATCH_WORDS + 1,
-            2 * SCRATCH_WORDS,
-        ] {
+        for len in other_lengths(SCRATCH_WORDS) {
             let place = || format!("{len} words of scratch for {cpi} cycles");
             for listing in [&circuit_words()[..], &FAULTY] {
                 let mut desk = Desk::with_scratch(listing, len, Numbers::for_test(63));
@@ -197,26 +185,15 @@ fn scratch_lengths(tally: &mut Tally) {
 fn listing_lengths(tally: &mut Tally) {
     for cpi in SIZES {
         let mut batch = zero_batch(cpi);
-        for len in [MOST_WORDS + 1, MOST_WORDS + 2, 20_000, 1 << 16] {
-            let place = || format!("{len} words of listing for {cpi} cycles");
-            for first in [listings::mark_word(Relation::Bin, 0), u32::MAX] {
-                let mut words = vec![0; len];
-                words[0] = first;
-                let right = refusal(LISTING_LENGTH);
-                refused(tally, cpi, &mut desk(&words), &mut batch, right, &place);
-            }
+        for words in too_long() {
+            let place = || format!("{} words of listing for {cpi} cycles", words.len());
+            let right = refusal(LISTING_LENGTH);
+            refused(tally, cpi, &mut desk(&words), &mut batch, right, &place);
         }
     }
 }
 
-/// One word of a good listing put wrong.
-struct Damage {
-    place: usize,
-    word: u32,
-    number: u64,
-}
-
-fn all_damages(tally: &mut Tally, kind: fn(&[u32]) -> Vec<Damage>) {
+fn all_damages(tally: &mut Tally, kind: Kind) {
     let words = circuit_words();
     let damages = kind(&words);
     in_parts(tally, damages.len(), |tally, i| {
@@ -235,158 +212,19 @@ fn all_damages(tally: &mut Tally, kind: fn(&[u32]) -> Vec<Damage>) {
     });
 }
 
-fn is_mark(word: u32) -> bool {
-    word >> 30 == 3
-}
-
-fn is_zero_term(word: u32) -> bool {
-    !is_mark(word) && word >> 29 & 1 == 1
-}
-
-/// Every so many words, the first and the last, and all of coefficient zero.
-fn some_places(words: &[u32]) -> Vec<usize> {
-    let chosen = |&i: &usize| i % STRIDE == 0 || i == words.len() - 1 || is_zero_term(words[i]);
-    (0..words.len()).filter(chosen).collect()
-}
-
-fn must_be_zero_bits(words: &[u32]) -> Vec<Damage> {
-    let mut damages = Vec::new();
-    for place in some_places(words) {
-        let word = words[place];
-        let lowest = match (is_mark(word), is_zero_term(word)) {
-            (true, _) => 9,
-            (_, true) => 12,
-            _ => 18,
-        };
-        damages.extend((lowest..29).map(|bit| Damage {
-            place,
-            word: word | 1 << bit,
-            number: MUST_BE_ZERO,
-        }));
-    }
-    damages
-}
-
-/// Only the first word can be a term without a mark before it.
-fn no_mark(_: &[u32]) -> Vec<Damage> {
-    [0, 0x0003_ffff, 0x2000_0fff, 0x4000_0800, 0x8000_0001]
-        .map(|word| Damage {
-            place: 0,
-            word,
-            number: NO_MARK,
-        })
-        .into()
-}
-
-/// Each mark made the same as the one before it, or an earlier one; each fld mark made one of bin,
-/// and one of a row that fld does not have.
-fn marks_out_of_order(words: &[u32]) -> Vec<Damage> {
-    let places: Vec<usize> = (0..words.len()).filter(|&i| is_mark(words[i])).collect();
-    let mut damages = Vec::new();
-    for pair in places.windows(2) {
-        let (before, place) = (pair[0], pair[1]);
-        let mut wrong = vec![words[before], words[0]];
-        if words[before] >> 29 == 7 {
-            wrong.push(listings::mark_word(Relation::Bin, 511));
-        }
-        let too_large = [32, 33, 255, 256, 511];
-        wrong.extend(too_large.map(|row| listings::mark_word(Relation::Fld, row)));
-        damages.extend(wrong.into_iter().map(|word| Damage {
-            place,
-            word,
-            number: MARK_ORDER,
-        }));
-    }
-    damages
-}
-
-/// A term after one of B made one of A, after one of C one of A or B.
-fn terms_out_of_order(words: &[u32]) -> Vec<Damage> {
-    let mut damages = Vec::new();
-    for place in 1..words.len() {
-        if is_mark(words[place]) || is_mark(words[place - 1]) {
-            continue;
-        }
-        damages.extend((0..words[place - 1] >> 30).map(|kind| Damage {
-            place,
-            word: words[place] & 0x3fff_ffff | kind << 30,
-            number: TERM_ORDER,
-        }));
-    }
-    damages
-}
-
-/// Must-be-zero bits in a word that another question would refuse as well.
-fn two_faults(words: &[u32]) -> Vec<Damage> {
-    let kinds = [no_mark, marks_out_of_order, terms_out_of_order];
-    kinds
-        .into_iter()
-        .flat_map(|kind| kind(words).into_iter().step_by(STRIDE))
-        .map(|damage| Damage {
-            word: damage.word | 1 << 28,
-            number: MUST_BE_ZERO,
-            ..damage
-        })
-        .collect()
-}
-
-/// Listings as long as may be, wrong in their last word.
 fn last_word(tally: &mut Tally) {
-    let mut words = vec![0x8000_0000; MOST_WORDS];
-    words[0] = listings::mark_word(Relation::Fld, 5);
-    let wrong = [
-        (0x8004_0000, MUST_BE_ZERO),
-        (listings::mark_word(Relation::Fld, 5), MARK_ORDER),
-        (0x4000_0000, TERM_ORDER),
-    ];
-    let place = MOST_WORDS - 1;
-    for (word, number) in wrong {
-        words[place] = word;
-        let right = Refusal { number, place };
-        let at = || format!("last word {word:08x}");
+    for (words, right) in wrong_at_last() {
+        let at = || format!("last word {:08x}", words[right.place]);
         refused(tally, 1, &mut desk(&words), &mut zero_batch(1), right, &at);
     }
 }
 
-/// A small good listing of each sort of word, and a wrong word for each number at each place.
-const SMALL: [u32; 8] = [
-    0xc000_0003,
-    0x0000_0001,
-    0x4000_0002,
-    0x8000_0003,
-    0xe000_0004,
-    0x0000_1004,
-    0x6000_0005,
-    0x8003_f006,
-];
-
-const PAIRS: u64 = 9 * (7 + 6 + 5 + 4 + 3 + 2 + 1);
-
-/// Each of three wrong words at each place, and each of three at each later one.
 fn first_word_first(tally: &mut Tally) {
-    for first in 0..SMALL.len() {
-        for second in first + 1..SMALL.len() {
-            for faults in 0..9 {
-                let mut words = SMALL;
-                words[first] = wrong_word(faults % 3);
-                words[second] = wrong_word(faults / 3);
-                let right = asked(&words).expect("a refusal");
-                assert!(
-                    right.place <= first,
-                    "the first wrong word or one before it"
-                );
-                let at = || format!("{words:08x?}");
-                let (mut desk, mut batch) = (desk(&words), zero_batch(1));
-                refused(tally, 1, &mut desk, &mut batch, right, &at);
-            }
-        }
+    for (words, right) in two_wrong_words() {
+        let at = || format!("{words:08x?}");
+        let (mut desk, mut batch) = (desk(&words), zero_batch(1));
+        refused(tally, 1, &mut desk, &mut batch, right, &at);
     }
-}
-
-/// Wrong wherever it stands: bits that must be zero; a mark that fld does not have; a mark before
-/// any other, which at place 0 makes what follows wrong.
-fn wrong_word(sort: usize) -> u32 {
-    [0x1000_0000, 0xe000_0020, 0xffff_ffff][sort]
 }
 
 /// Every choice of faults among the five that are asked in this order.
