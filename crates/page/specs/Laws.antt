@@ -7,9 +7,10 @@
 --     Ways              the ways out of a call that lays a row out
 --     Fields            what stands where in a term's line
 --     Sixty             every line has 60 characters, so line i of the pages is line i of the row, and behind the last all is blank
---     Paper             what a call that is answered with yes leaves is what a bench page shows
+--     Paper             what a call that is answered with yes leaves is what a bench page shows; a refusal leaves every byte
 --     Verdict           the page asked for with a verdict's row and cycle shows the row that fails
---     Given             a given row, laid out by computation in a batch of four cycles
+--     Readings          what is read off a page are the numbers: the head's batch row, a term's batch column, and its element
+--     Given             a given row, laid out by computation in a batch of four cycles; given calls, with what they answer and leave
 pub mod Lines
 pub mod Places
 pub mod Terms
@@ -20,4 +21,5 @@ pub mod Fields
 pub mod Sixty
 pub mod Paper
 pub mod Verdict
+pub mod Readings
 pub mod Given

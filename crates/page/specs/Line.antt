@@ -5,15 +5,14 @@ use Prim.Native.Nat.{ℕ}
 use Rattle.base.specs.Text.{ascii}
 use Rattle.text.specs.Digits.{decimal}
 use Rattle.circuit.specs.declared.Relation.{Relation}
-use Rattle.circuit.specs.declared.Relation.the-variants.{Bin, Fld}
 use Rattle.verdict.specs.declared.Verdict.{Verdict}
 use Rattle.verdict.specs.declared.Verdict.the-variants.{Accepted, Failed}
 use Rattle.verdict.specs.declared.CheckAnswer.{CheckAnswer}
 use Rattle.verdict.specs.declared.CheckAnswer.the-variants.{Judged, Refused}
+use Rattle.page.specs.Lines.{relationText}
 
 abbrev pub failedText : Relation → List ℕ
-failedText Bin = ascii "failed bin row="
-failedText Fld = ascii "failed fld row="
+failedText relation = ascii "failed " ++ relationText relation ++ ascii " row="
 
 abbrev pub rowsText : ℕ → List ℕ
 rowsText rows = ascii "rows=" ++ decimal rows ++ ascii "\n"

@@ -45,7 +45,8 @@ lineOf side column segment k element =
 
 -- cycle d of a batch
 module _ (cpi : ℕ) (batch : List ℕ) (d : ℕ) where
-  -- a term's column stands at its batch column; its element is the one that the check reads
+  -- a term's column stands at its batch column, and its element there is the one that a check of this cycle reads (of coefficient zero it
+  -- reads none)
   unfoldable pub termLine : Side → Coefficient → ℕ → List ℕ
   termLine side k c = lineOf side (columnAt cpi c d) (segmentName c) k (value (cycleOf cpi batch d c))
 

@@ -27,6 +27,14 @@ use Rattle.page.specs.Pages.{pageBytes, pages, lineCount, bytesFor, laid
 abbrev pub lineAt : ℕ → List ℕ → List ℕ
 lineAt i page = take 60 (drop (60 * i) page)
 
+-- the blanks of a term's line: one between each two fields, and all behind the last
+pub record Blanks (line : List ℕ) : Type 0 where
+  pub second : take 1 (drop 1 line) ≡ blanks 1
+  pub tenth : take 1 (drop 9 line) ≡ blanks 1
+  pub twentieth : take 1 (drop 19 line) ≡ blanks 1
+  pub before-digits : take 1 (drop 23 line) ≡ blanks 1
+  pub behind-digits : drop 56 line ≡ blanks 4
+
 -- a term's line, field by field, from the listing's word: what stands where
 pub record TermShown (cpi : ℕ) (batch : List ℕ) (d w : ℕ) (line : List ℕ) : Type 0 where
   pub side : take 1 line ≡ sideText (sideOf w)
@@ -34,8 +42,9 @@ pub record TermShown (cpi : ℕ) (batch : List ℕ) (d w : ℕ) (line : List ℕ
   pub column : (b : ℕ) → mapped 4096 cpi (w % 2 ^ 12) d ≡ AtColumn b → take 7 (drop 2 line) ≡ right 7 b
   pub segment : take 9 (drop 10 line) ≡ left 9 (segmentName (w % 2 ^ 12))
   pub exponent : take 3 (drop 20 line) ≡ exponentText (coefficientOf w)
-  -- the digits of the element that the check reads for that term in that cycle
+  -- the digits of the column's element in that cycle, which is what the check reads for the term where its coefficient is not zero
   pub digits : take 32 (drop 24 line) ≡ hex 32 (value (cycleOf cpi batch d (w % 2 ^ 12)))
+  pub between : Blanks line
 
 -- the pages of listing row n in cycle d
 pub record Shown (cpi : ℕ) (listing batch : List ℕ) (rel : Relation) (n d : ℕ) (page : List ℕ) : Type 0 where
@@ -61,7 +70,7 @@ pub record RowShown (cpi : ℕ) (listing batch : List ℕ) (rel : Relation) (b :
   -- cycle and row are those that `unmap_row` answers
   pub back : unmappedRow cpi rel b ≡ In cycle number
   pub fails : holds (cycleOf cpi batch cycle) sides ≡ false
-  -- so many bytes are to be lent; the head has the verdict's batch row, and the lines are those of the terms that fail
+  -- so many bytes are to be lent; the head has the verdict's batch row, and the lines are those of the terms of the row that fails
   pub bytes : bytesFor listing rel number ≡ Of (pageBytes (lineCount sides))
   pub page : (there : List ℕ) → length there ≡ pageBytes (lineCount sides)
       → laidOut cpi listing batch rel number cycle there ≡ laid (pages (headLine rel b ∷ termLines cpi batch cycle sides))

@@ -9,7 +9,8 @@ ghost use Rattle.text.specs.Digits.{decimal};
 ghost use Rattle.text.specs.Put.{Put, Placed};
 ghost use Rattle.page.specs.Line.{failedText, rowsText, verdictLine, answerLine};
 
-// Places a part at an index where there is room for it, and gives the index behind it, as do the next five.
+// Places a part at an index where there is room for it, and gives the index behind it. The next five do the same with their texts; three
+// of them start at 0.
 fn place(out: &mut [u8], at: usize, part: &[u8]) -> usize
     requires { ⌜ at + length (now part) ≤ length (now out) ⌝ }
     ensures { λ r. ⌜ Placed at (now (part .entry)) (now (out .entry)) (now (out .exit)) r ⌝ }

@@ -1,4 +1,5 @@
-// The lines of a bench page. Each function here puts a text at an index, finds room for it, and gives the index behind it.
+// The lines of a bench page. A function here that puts a text at an index supposes room for it, and gives the index behind it. A term's
+// place is its batch column.
 use circuit::Coefficient;
 use circuit::Relation;
 use circuit::Side;

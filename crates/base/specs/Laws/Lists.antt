@@ -1,12 +1,13 @@
 -- What is so of every element, of lists put together, taken apart or mapped; and of every number below a limit.
 -- Assumes nothing.
-use mathlib.Core.Path.{_≡_, sym, subst}
+use mathlib.Core.Path.{_≡_, refl, sym, subst}
 use mathlib.Core.Bool.{Bool, true, not}
 use mathlib.Core.List.{List, [], _∷_, _++_, map}
 use mathlib.Core.Logic.{_↔_, ⊎-elim}
 use Prim.Native.Nat.{ℕ, zero, suc, _<_}
 use native.Mathlib.Nat.{not-suc-le-zero, eq-or-lt-of-le, le-of-suc-le-suc}
 use borrow.Author.Tests.{not-true}
+use lib.ListN.{length, getD}
 use Rattle.base.specs.Bits.{_⊻_}
 use Rattle.base.specs.Lists.{All, joined, allBelow}
 use Rattle.base.specs.Laws.Tests.{both}
@@ -75,3 +76,16 @@ below-at (suc n) f t i l =
 -- two tests that are the same below n
 pub same-below : (n : ℕ) (f g : ℕ → Bool) → allBelow n (λ i. not (f i ⊻ g i)) ≡ true → (i : ℕ) → i < n → f i ≡ g i
 same-below n f g t i l = xor-cancel (f i) (g i) (not-true (f i ⊻ g i) (below-at n (λ i. not (f i ⊻ g i)) t i l))
+
+-- ---- what a list holds at an index inside
+
+-- it does not depend on what is given outside
+pub getD-inside : {A : Type 0} (xs : List A) (i : ℕ) (a b : A) → i < length xs → getD xs i a ≡ getD xs i b
+getD-inside [] i a b h = absurd (not-suc-le-zero h)
+getD-inside (x ∷ xs) zero a b h = refl
+getD-inside (x ∷ xs) (suc i) a b h = getD-inside xs i a b (le-of-suc-le-suc h)
+
+pub getD-mapped : {A B : Type 0} (f : A → B) (xs : List A) (i : ℕ) (a : A) (b : B) → i < length xs → getD (map f xs) i b ≡ f (getD xs i a)
+getD-mapped f [] i a b h = absurd (not-suc-le-zero h)
+getD-mapped f (x ∷ xs) zero a b h = refl
+getD-mapped f (x ∷ xs) (suc i) a b h = getD-mapped f xs i a b (le-of-suc-le-suc h)

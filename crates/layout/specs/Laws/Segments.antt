@@ -2,14 +2,14 @@
 -- Assumes nothing.
 use mathlib.Core.Path.{_≡_, refl, ap, _∙_}
 use mathlib.Core.Bool.{Bool, true, false, cond}
-use mathlib.Core.List.{List, [], _∷_}
+use mathlib.Core.List.{List, [], _∷_, map}
 use Prim.Native.Nat.{ℕ, zero, suc, _+_, _*_, _≤_, _<_}
 use native.Mathlib.Numerals.{add-one}
 use native.Mathlib.Nat.{not-suc-le-zero, le-of-suc-le-suc}
 use native.Mathlib.Omega.{arith}
 use borrow.Author.Tests.{leb-true, le-leb, le-ltb}
 use lib.Dec.{leb, ltb}
-use lib.ListN.{length, getD, drop, length-append, length-replicate, drop-of-length-le, List·getD-eq-default, List·getD-append}
+use lib.ListN.{length, replicate, getD, drop, length-append, length-replicate, drop-of-length-le, List·getD-eq-default, List·getD-append}
 use lib.Seq.{drop-cons, getD-append-add}
 use Rattle.base.specs.Text.{ascii}
 use Rattle.base.specs.Lists.{All, joined}
@@ -151,47 +151,31 @@ pub length-name : (c : ℕ) → length (padded (segmentName c)) ≡ 9
 unfolding segmentName
 length-name c = length-padded (nameIn segments c) (name-fits segments segments-fit c)
 
--- given columns, by computation
+-- ---- by computation: the first and the last column of every segment, by its number in document 01, and columns that have none
+
+abbrev firsts : List ℕ
+firsts =
+    0 ∷ 64 ∷ 128 ∷ 192 ∷ 256 ∷ 320 ∷ 384 ∷ 448 ∷ 512 ∷ 576 ∷ 640 ∷ 704 ∷ 768 ∷ 784 ∷ 792 ∷ 800 ∷ 832 ∷ 896 ∷ 1024 ∷ []
+
+abbrev lasts : List ℕ
+lasts =
+    63 ∷ 127 ∷ 191 ∷ 255 ∷ 319 ∷ 383 ∷ 447 ∷ 511 ∷ 575 ∷ 639 ∷ 703 ∷ 767 ∷ 783 ∷ 791 ∷ 799 ∷ 807 ∷ 895 ∷ 959 ∷ 2047 ∷ []
+
+abbrev names : List (List ℕ)
+names =
+    ascii "rs1" ∷ ascii "rs2" ∷ ascii "rd" ∷ ascii "load-val" ∷ ascii "shift-out" ∷ ascii "t1" ∷ ascii "t2" ∷ ascii "carry" ∷
+    ascii "alu" ∷ ascii "shift-src" ∷ ascii "store-old" ∷ ascii "store-src" ∷ ascii "flags" ∷ ascii "off" ∷ ascii "ram-addr" ∷
+    ascii "pc" ∷ ascii "fetch" ∷ ascii "eqaux" ∷ ascii "crossaux" ∷ []
+
+-- behind pc, behind eqaux, and the public columns
+abbrev nameless : List ℕ
+nameless = 808 ∷ 810 ∷ 831 ∷ 960 ∷ 1023 ∷ 2048 ∷ 4095 ∷ []
+
 pub record GivenNames : Type 0 where
-  pub rs1-first : segmentName 0 ≡ ascii "rs1"
-  pub rs1-last : segmentName 63 ≡ ascii "rs1"
-  pub rs2-first : segmentName 64 ≡ ascii "rs2"
-  pub carry-first : segmentName 448 ≡ ascii "carry"
-  pub pc-last : segmentName 807 ≡ ascii "pc"
-  pub pc-behind : segmentName 808 ≡ []
-  pub gap : segmentName 810 ≡ []
-  pub fetch-before : segmentName 831 ≡ []
-  pub fetch-first : segmentName 832 ≡ ascii "fetch"
-  pub fetch-last : segmentName 895 ≡ ascii "fetch"
-  pub eqaux-first : segmentName 896 ≡ ascii "eqaux"
-  pub eqaux-last : segmentName 959 ≡ ascii "eqaux"
-  pub eqaux-behind : segmentName 960 ≡ []
-  pub crossaux-before : segmentName 1023 ≡ []
-  pub crossaux-first : segmentName 1024 ≡ ascii "crossaux"
-  pub crossaux-last : segmentName 2047 ≡ ascii "crossaux"
-  pub one-column : segmentName 2048 ≡ []
-  pub last-column : segmentName 4095 ≡ []
+  pub first : map segmentName firsts ≡ names
+  pub last : map segmentName lasts ≡ names
+  pub none : map segmentName nameless ≡ replicate 7 []
 
 pub given-names : GivenNames
 unfolding segments nameIn segmentName
-given-names =
-    record {
-      rs1-first = refl;
-      rs1-last = refl;
-      rs2-first = refl;
-      carry-first = refl;
-      pc-last = refl;
-      pc-behind = refl;
-      gap = refl;
-      fetch-before = refl;
-      fetch-first = refl;
-      fetch-last = refl;
-      eqaux-first = refl;
-      eqaux-last = refl;
-      eqaux-behind = refl;
-      crossaux-before = refl;
-      crossaux-first = refl;
-      crossaux-last = refl;
-      one-column = refl;
-      last-column = refl;
-    }
+given-names = record { first = refl; last = refl; none = refl }

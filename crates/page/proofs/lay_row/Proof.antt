@@ -4,7 +4,7 @@ use mathlib.Core.Path.{sym, _∙_}
 use borrow.Author.Needs.{needs}
 use denote.Ref.{now}
 use Rattle.page.specs.Laws.Rows.{row-read, read-few}
-use Rattle.page.specs.Laws.Ways.{laid-13, laid-15, laid-16, laid-yes}
+use Rattle.page.specs.Laws.Ways.{laid-unread, laid-15, laid-16, laid-yes}
 use Rattle.page.proofs.lay_row.Statement.{statement}
 use Rattle.page.proofs.lay_row.Tie as tie
 
@@ -32,7 +32,7 @@ write-pages-requires c κs =
 returns-3 : tie.Need-returns-3
 returns-3 c =
     let f = c .before in let r = f .before .before in let x = r .before .before .before .before .args in
-    laid-13 (x .cpi) (now (x .listing)) (now (x .batch)) (x .relation) (x .row) (x .cycle) (now (x .page)) _
+    laid-unread (x .cpi) (now (x .listing)) (now (x .batch)) (x .relation) (x .row) (x .cycle) (now (x .page)) _
     (sym (r .read-row .ensures) ∙ f .r .given .1)
 
 returns-4 : tie.Need-returns-4

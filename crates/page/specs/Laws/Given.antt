@@ -1,4 +1,4 @@
--- A given row, laid out by computation: in a batch of four cycles line by line, and the answers of calls that differ in one thing.
+-- A given row, laid out by computation in a batch of four cycles line by line; and given calls, with what they answer and leave.
 -- Assumes nothing.
 use mathlib.Core.Path.{_≡_, refl}
 use mathlib.Core.List.{List, [], _∷_}
@@ -7,7 +7,7 @@ use lib.ListN.{set, replicate}
 use Rattle.base.specs.Text.{ascii}
 use Rattle.text.specs.Digits.{decimalIn, right, hex}
 use Rattle.field.specs.Gf.Element.{value-words}
-use Rattle.layout.specs.declared.Asked.the-variants.{Yes}
+use Rattle.layout.specs.declared.Asked.the-variants.{Yes, No}
 use Rattle.layout.specs.Batch.{allowed, batchAsked, columnAt}
 use Rattle.layout.specs.Questions.{no}
 use Rattle.layout.specs.Segments.{segments, nameIn, segmentName}
@@ -18,10 +18,13 @@ use Rattle.circuit.specs.Words.{cleanOf, wordOf, markWord, termWord}
 use Rattle.circuit.specs.Parse.{parse}
 use Rattle.circuit.specs.Valid.{afterMark, afterTerm, afterWord, validFrom, validated}
 use Rattle.circuit.specs.Found.{until, rowAt, found}
+use Rattle.verdict.specs.declared.Verdict.the-variants.{Failed}
+use Rattle.verdict.specs.declared.CheckAnswer.the-variants.{Judged}
 use Rattle.verdict.specs.Row.{cycleOf}
 use Rattle.page.specs.declared.BytesAnswer.the-variants.{Of, Refused}
+use Rattle.page.specs.Line.{answerLine}
 use Rattle.page.specs.Lines.{headLine, lineOf, termLine, rowLines}
-use Rattle.page.specs.Pages.{pageCount, pageBytes, sidesAt, bytesFor, notLaid, laidAt, laidOut}
+use Rattle.page.specs.Pages.{pageCount, pageBytes, sidesAt, bytesFor, laidAt, laidOut}
 
 -- bin row 5: two terms on A, the second of coefficient zero, one on B, and a public column on C
 abbrev listing : List ℕ
@@ -31,6 +34,10 @@ listing =
 -- four cycles: in the last one, column 0 and column 2,047 are not zero
 abbrev four : List ℕ
 four = set (set (set (replicate 32768 0) 6 0x0123456789abcdef) 7 0xfedcba9876543210) 16382 1
+
+-- a term of A behind one of B
+abbrev outOfOrder : List ℕ
+outOfOrder = markWord Bin 5 ∷ termWord B (Power 0) 0 ∷ termWord A (Power 0) 0 ∷ []
 
 pub record Given : Type 0 where
   pub lines : rowLines 4 four 3 Bin 5 (sidesAt listing 0)
@@ -45,14 +52,18 @@ pub record Given : Type 0 where
   pub two-pages : pageBytes 61 ≡ 7200
   pub bytes : bytesFor listing Bin 5 ≡ Of 3600
   pub no-row : bytesFor listing Fld 5 ≡ Refused (no 13 0)
-  -- the call with its page lent; and with one thing wrong, or two, of which the question that is asked first counts
-  pub laid-out : laidOut 4 listing four Bin 5 3 (replicate 3600 0) .answer ≡ Yes
-  pub size : laidOut 3 listing four Bin 5 3 (replicate 3600 0) ≡ notLaid (replicate 3600 0) (no 1 0)
-  pub batch : laidOut 8 listing four Bin 5 3 (replicate 3600 0) ≡ notLaid (replicate 3600 0) (no 2 0)
-  pub term-first : laidOut 4 (0 ∷ listing) four Bin 5 3 (replicate 3600 0) ≡ notLaid (replicate 3600 0) (no 8 0)
-  pub row : laidOut 4 listing four Bin 6 4 (replicate 3599 0) ≡ notLaid (replicate 3599 0) (no 13 0)
-  pub room : laidOut 4 listing four Bin 5 4 (replicate 3599 0) ≡ notLaid (replicate 3599 0) (no 16 0)
-  pub cycle : laidOut 4 listing four Bin 5 4 (replicate 3600 0) ≡ notLaid (replicate 3600 0) (no 15 0)
+  pub fld-head : headLine Fld 99 ≡ ascii "fld      99                                                 "
+  pub fld-line : answerLine (Judged (Failed Fld 1 485)) ≡ ascii "failed fld row=1 rows=485\n"
+  pub no-order : bytesFor outOfOrder Bin 5 ≡ Refused (no 10 2)
+  -- the call with its page lent; and with things wrong, of which the question that is asked first counts: its number, its place, and
+  -- every byte as it came
+  pub laid-out : laidOut 4 listing four Bin 5 3 (replicate 3600 7) .answer ≡ Yes
+  pub size : laidOut 3 outOfOrder four Bin 6 4 (replicate 3599 7) ≡ record { answer = No (no 1 0); page = replicate 3599 7 }
+  pub batch : laidOut 8 outOfOrder four Bin 6 8 (replicate 3599 7) ≡ record { answer = No (no 2 0); page = replicate 3599 7 }
+  pub order : laidOut 4 outOfOrder four Bin 6 4 (replicate 3599 7) ≡ record { answer = No (no 10 2); page = replicate 3599 7 }
+  pub row : laidOut 4 listing four Bin 6 4 (replicate 3599 7) ≡ record { answer = No (no 13 0); page = replicate 3599 7 }
+  pub room : laidOut 4 listing four Bin 5 4 (replicate 3599 7) ≡ record { answer = No (no 16 0); page = replicate 3599 7 }
+  pub cycle : laidOut 4 listing four Bin 5 4 (replicate 3600 7) ≡ record { answer = No (no 15 0); page = replicate 3600 7 }
 
 pub given : Given
 unfolding right decimalIn segments nameIn segmentName columnAt cleanOf wordOf parse afterMark afterTerm afterWord validFrom validated
@@ -65,10 +76,13 @@ given =
       two-pages = refl;
       bytes = refl;
       no-row = refl;
+      fld-head = refl;
+      fld-line = refl;
+      no-order = refl;
       laid-out = refl;
       size = refl;
       batch = refl;
-      term-first = refl;
+      order = refl;
       row = refl;
       room = refl;
       cycle = refl;

@@ -63,54 +63,63 @@ exponent-three Zero h = refl
 with-blank : (n : ℕ) (x y : List ℕ) → length y ≡ n → x ++ left (n + 1) y ≡ x ++ y ++ blanks 1
 with-blank n x y e = ap (λ t. x ++ t) (left-blanks 1 n y e) ∙ sym (append-assoc x y (blanks 1))
 
+-- a term's line as far as its side, its column, its segment and its exponent, with the blank behind each
+abbrev pub withSide : Side → List ℕ
+withSide side = sideText side ++ blanks 1
+
+abbrev pub withColumn : Side → ℕ → List ℕ
+withColumn side place = withSide side ++ right 7 place ++ blanks 1
+
+abbrev pub withName : Side → ℕ → ℕ → List ℕ
+withName side place c = withColumn side place ++ padded (segmentName c) ++ blanks 1
+
+abbrev pub withExponent : Side → ℕ → ℕ → Coefficient → List ℕ
+withExponent side place c k = withName side place c ++ exponentText k ++ blanks 1
+
 -- a term's line from its pieces
 module _ (side : Side) (place c : ℕ) (k : Coefficient) (x : ℕ) (few : place < 10 ^ 7) (short : Short k) where
-  abbrev pub withSide : List ℕ
-  withSide = sideText side ++ blanks 1
-
-  abbrev pub withColumn : List ℕ
-  withColumn = withSide ++ right 7 place ++ blanks 1
-
-  abbrev pub withName : List ℕ
-  withName = withColumn ++ left 9 (segmentName c) ++ blanks 1
-
-  abbrev pub withExponent : List ℕ
-  withExponent = withName ++ exponentText k ++ blanks 1
-
   abbrev pub fields : List ℕ
   fields = left 2 (sideText side) ++ left 8 (right 7 place) ++ left 10 (padded (segmentName c)) ++ left 4 (exponentText k)
 
-  front : fields ≡ withExponent
+  front : fields ≡ withExponent side place c k
   front =
       ap (λ t. t ++ left 8 (right 7 place) ++ left 10 (padded (segmentName c)) ++ left 4 (exponentText k))
       (left-blanks 1 1 (sideText side) (side-one side))
-      ∙ ap (λ t. t ++ left 10 (padded (segmentName c)) ++ left 4 (exponentText k)) (with-blank 7 withSide (right 7 place) (seven place few))
-      ∙ ap (λ t. t ++ left 4 (exponentText k)) (with-blank 9 withColumn (padded (segmentName c)) (length-name c))
-      ∙ with-blank 3 withName (exponentText k) (exponent-three k short)
+      ∙ ap (λ t. t ++ left 10 (padded (segmentName c)) ++ left 4 (exponentText k)) (with-blank 7 (withSide side) (right 7 place)
+      (seven place few))
+      ∙ ap (λ t. t ++ left 4 (exponentText k)) (with-blank 9 (withColumn side place) (padded (segmentName c)) (length-name c))
+      ∙ with-blank 3 (withName side place c) (exponentText k) (exponent-three k short)
 
-  pub column-ten : length withColumn ≡ 10
+  pub column-ten : length (withColumn side place) ≡ 10
   column-ten =
-      length-append (withSide ++ right 7 place) (blanks 1)
-      ∙ omega (arith, length-append withSide (right 7 place), side-two side, seven place few)
+      length-append (withSide side ++ right 7 place) (blanks 1)
+      ∙ omega (arith, length-append (withSide side) (right 7 place), side-two side, seven place few)
 
-  pub name-twenty : length withName ≡ 20
+  pub name-twenty : length (withName side place c) ≡ 20
   name-twenty =
-      length-append (withColumn ++ padded (segmentName c)) (blanks 1)
-      ∙ omega (arith, length-append withColumn (padded (segmentName c)), column-ten, length-name c)
+      length-append (withColumn side place ++ padded (segmentName c)) (blanks 1)
+      ∙ omega (arith, length-append (withColumn side place) (padded (segmentName c)), column-ten, length-name c)
 
-  pub width : length withExponent ≡ 24
+  pub width : length (withExponent side place c k) ≡ 24
   width =
-      length-append (withName ++ exponentText k) (blanks 1)
-      ∙ omega (arith, length-append withName (exponentText k), name-twenty, exponent-three k short)
+      length-append (withName side place c ++ exponentText k) (blanks 1)
+      ∙ omega (arith, length-append (withName side place c) (exponentText k), name-twenty, exponent-three k short)
 
   pub line-pieces : fields ++ left 36 (hex 32 x) ≡ lineOf side place (segmentName c) k x
   unfolding lineOf
-  line-pieces = ap (λ t. t ++ left 36 (hex 32 x)) front ∙ sym (left-behind 60 36 withExponent (hex 32 x) (omega (arith, width)))
+  line-pieces = ap (λ t. t ++ left 36 (hex 32 x)) front ∙ sym (left-behind 60 36 (withExponent side place c k) (hex 32 x) (omega
+      (arith, width)))
 
   -- 60 characters
   pub line-sixty : length (lineOf side place (segmentName c) k x) ≡ 60
   unfolding lineOf
-  line-sixty = left-in 60 (withExponent ++ hex 32 x) (omega (arith, width, length-append withExponent (hex 32 x), hex-length 32 x))
+  line-sixty = left-in 60 (withExponent side place c k ++ hex 32 x) (omega (
+    arith,
+    width,
+    length-append (withExponent side place c k)
+        (hex 32 x),
+    hex-length 32 x,
+  ))
 
 pub head-sixty : (rel : Relation) (row : ℕ) → row < 10 ^ 7 → length (headLine rel row) ≡ 60
 unfolding headLine

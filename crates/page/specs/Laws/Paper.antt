@@ -1,19 +1,20 @@
--- What a call that is answered with yes leaves is what a bench page shows.
+-- What a call that is answered with yes leaves is what a bench page shows; a refusal leaves every byte as it came.
 -- Assumes nothing.
 use mathlib.Core.Path.{_≡_, refl, sym, ap, subst, _∙_}
 use mathlib.Core.Bool.{Bool, true, false, cond}
-use mathlib.Core.List.{List, [], _∷_, map}
-use Prim.Native.Nat.{ℕ, zero, suc, _+_, _-_, _%_, _^_, _<_}
-use native.Mathlib.Nat.{not-suc-le-zero, le-of-suc-le-suc}
+use mathlib.Core.List.{List, [], _∷_}
+use Prim.Native.Nat.{ℕ, _+_, _-_, _%_, _^_, _<_}
 use native.Mathlib.Numerals.{add-one}
 use native.Mathlib.Omega.{arith}
 use borrow.Author.Tests.{ltb-true}
 use lib.Dec.{eqb, ltb}
 use lib.ListN.{length, getD, take, drop, length-drop}
 use lib.Seq.{length-take-le, getD-drop, getD-take}
+use Rattle.base.specs.Laws.Lists.{getD-mapped}
 use Rattle.field.specs.Gf.{value}
 use Rattle.layout.specs.declared.Asked.{Asked}
 use Rattle.layout.specs.declared.Asked.the-variants.{Yes, No}
+use Rattle.layout.specs.declared.Refusal.{Refusal}
 use Rattle.layout.specs.Batch.{allowed, batchWords, batchAsked, columnAt}
 use Rattle.layout.specs.Questions.{no, ifYes}
 use Rattle.layout.specs.Laws.Questions.{batch-yes}
@@ -34,7 +35,7 @@ use Rattle.page.specs.Pages.{laid, notLaid, pageCount, pageBytes, pages,
 use Rattle.page.specs.Paper.{lineAt, TermShown, Shown}
 use Rattle.page.specs.Promises.{InBatch, RowAt, Short, wordLine, wordLines}
 use Rattle.page.specs.Laws.Places.{placed-column, short-of}
-use Rattle.page.specs.Laws.Fields.{line-side, line-column, line-name, line-exponent, line-digits}
+use Rattle.page.specs.Laws.Fields.{line-side, line-column, line-name, line-exponent, line-digits, line-blanks}
 use Rattle.page.specs.Laws.Rows.{row-read, read-place}
 use Rattle.page.specs.Laws.Pages.{lines-are, lines-count, row-lines}
 use Rattle.page.specs.Laws.Terms.{term-word}
@@ -86,6 +87,35 @@ module _ (cpi : ℕ) (listing batch : List ℕ) (rel : Relation) (n d : ℕ) (th
       by-asked Yes e y = let q = batch-yes cpi (length batch) e in laid-at (rowRead listing rel n) refl (q .0) (q .1) y
       by-asked (No r) e y = let z : _≡_ {A = ℕ} 0 1 = cc in absurd (omega arith)
 
+-- ---- what a no leaves
+
+module _ (cpi : ℕ) (listing batch : List ℕ) (rel : Relation) (n d : ℕ) (there : List ℕ) where
+  kept-at : (f : Found) {r : Refusal} → laidAt cpi listing batch rel n d there f .answer ≡ No r
+      → laidAt cpi listing batch rel n d there f .page ≡ there
+  unfolding laidAt
+  kept-at (NotFound q) e = refl
+  kept-at (At start end) {r} e = by-tests (eqb (length there) (pageBytes (lineCount (sidesAt listing start)))) (ltb d cpi) e
+    where
+      made : List ℕ
+      made = pages (rowLines cpi batch d rel n (sidesAt listing start))
+
+      by-tests : (b c : Bool) → cond b (cond c (laid made) (notLaid there (no 15 0))) (notLaid there (no 16 0)) .answer ≡ No r
+          → cond b (cond c (laid made) (notLaid there (no 15 0))) (notLaid there (no 16 0)) .page ≡ there
+      by-tests true true e = let z : _≡_ {A = ℕ} 0 1 = cc in absurd (omega arith)
+      by-tests true false e = refl
+      by-tests false c e = refl
+
+  -- a refusal leaves every byte as it came
+  pub refusal-keeps : {r : Refusal} → laidOut cpi listing batch rel n d there .answer ≡ No r
+      → laidOut cpi listing batch rel n d there .page ≡ there
+  unfolding laidOut
+  refusal-keeps {r} = by-asked (batchAsked cpi (length batch))
+    where
+      by-asked : (a : Asked) → ifYes (notLaid there) a (laidAt cpi listing batch rel n d there (rowRead listing rel n)) .answer ≡ No r
+          → ifYes (notLaid there) a (laidAt cpi listing batch rel n d there (rowRead listing rel n)) .page ≡ there
+      by-asked Yes e = kept-at (rowRead listing rel n) e
+      by-asked (No q) e = refl
+
 -- ---- a term's line
 
 module _ (cpi : ℕ) (batch : List ℕ) (d : ℕ) (b : InBatch cpi d batch) where
@@ -100,6 +130,7 @@ module _ (cpi : ℕ) (batch : List ℕ) (d : ℕ) (b : InBatch cpi d batch) wher
         segment = line-name side place c k x few short;
         exponent = line-exponent side place c k x few short;
         digits = line-digits side place c k x few short;
+        between = line-blanks side place c k x few short;
       })
     where
       c : ℕ
@@ -125,12 +156,6 @@ module _ (cpi : ℕ) (batch : List ℕ) (d : ℕ) (b : InBatch cpi d batch) wher
 
 -- ---- the page
 
--- what a list holds at an index inside, mapped
-mapped-inside : {A B : Type 0} (f : A → B) (xs : List A) (k : ℕ) (a : A) (b : B) → k < length xs → getD (map f xs) k b ≡ f (getD xs k a)
-mapped-inside f [] k a b h = absurd (not-suc-le-zero h)
-mapped-inside f (x ∷ xs) zero a b h = refl
-mapped-inside f (x ∷ xs) (suc k) a b h = mapped-inside f xs k a b (le-of-suc-le-suc h)
-
 module _ (cpi : ℕ) (listing batch : List ℕ) (rel : Relation) (n d start end : ℕ) (place : rowRead listing rel n ≡ At start end)
     (b : InBatch cpi d batch) where
   abbrev lines : List (List ℕ)
@@ -152,13 +177,13 @@ module _ (cpi : ℕ) (listing batch : List ℕ) (rel : Relation) (n d start end 
   sixty : Sixty lines
   sixty = row-sixty cpi batch d b rel n (sidesAt listing start) (row .1) (terms-fit (drop (start + 1) listing))
 
-  term-line : (k : ℕ) → k < end - (start + 1) → lineAt (k + 1) (pages lines) ≡ wordLine cpi batch d (wordOf (getD listing
+  line-of-term : (k : ℕ) → k < end - (start + 1) → lineAt (k + 1) (pages lines) ≡ wordLine cpi batch d (wordOf (getD listing
       (start + 1 + k) 0))
-  term-line k h =
+  line-of-term k h =
       pages-line lines sixty (k + 1) (omega (arith, count))
       ∙ ap (λ ls. getD ls (k + 1) []) (row-lines cpi batch d listing start end rel n (row .0))
       ∙ ap (λ (i : ℕ). getD (headLine rel (batchRow rel d n) ∷ wordLines cpi batch d words) i []) (add-one k)
-      ∙ mapped-inside (λ w. wordLine cpi batch d (wordOf w)) words k 0 [] (omega (arith, words-count))
+      ∙ getD-mapped (λ w. wordLine cpi batch d (wordOf w)) words k 0 [] (omega (arith, words-count))
       ∙ ap (λ w. wordLine cpi batch d (wordOf w))
       (getD-take (end - (start + 1)) (drop (start + 1) listing) k 0 h ∙ getD-drop (start + 1) listing k 0)
 
@@ -179,7 +204,7 @@ module _ (cpi : ℕ) (listing batch : List ℕ) (rel : Relation) (n d start end 
         enough = omega (arith, count);
         needed = omega (arith, count);
         head = pages-line lines sixty 0 (omega (arith, count, row .0 .begins));
-        term = λ k h. subst (TermShown cpi batch d (getD listing (start + 1 + k) 0)) (sym (term-line k h))
+        term = λ k h. subst (TermShown cpi batch d (getD listing (start + 1 + k) 0)) (sym (line-of-term k h))
             (term-shown cpi batch d b (getD listing (start + 1 + k) 0) (no-mark k h));
         blank = λ i l h. pages-blank lines sixty i (omega (arith, count)) h;
       }

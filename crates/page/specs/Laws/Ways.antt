@@ -18,10 +18,10 @@ use Rattle.page.specs.Laws.Pages.{lines-are}
 
 module _ (cpi : ℕ) (listing batch : List ℕ) (rel : Relation) (n d : ℕ) (there : List ℕ) where
   -- 6 to 10, 13
-  pub laid-13 : (r : Refusal) → rowRead listing rel n ≡ NotFound r
+  pub laid-unread : (r : Refusal) → rowRead listing rel n ≡ NotFound r
       → notLaid there r ≡ laidAt cpi listing batch rel n d there (rowRead listing rel n)
   unfolding laidAt
-  laid-13 r e = ap (laidAt cpi listing batch rel n d there) (sym e)
+  laid-unread r e = ap (laidAt cpi listing batch rel n d there) (sym e)
 
   module _ (start end bytes : ℕ) (e : rowRead listing rel n ≡ At start end) (b : bytes ≡ pageBytes (end - start)) where
     needed : bytes ≡ pageBytes (lineCount (sidesAt listing start))

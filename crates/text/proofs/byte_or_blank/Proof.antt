@@ -1,7 +1,8 @@
 -- `text::byte_or_blank` meets its contract: inside the part no default counts, and behind it the default is the blank.
 -- Assumes nothing.
 use borrow.Author.Needs.{needs}
-use Rattle.text.specs.Laws.Left.{getD-inside, getD-behind}
+use Rattle.base.specs.Laws.Lists.{getD-inside}
+use Rattle.text.specs.Laws.Left.{getD-behind}
 use Rattle.text.proofs.byte_or_blank.Statement.{statement}
 use Rattle.text.proofs.byte_or_blank.Tie as tie
 

@@ -18,10 +18,10 @@ use Rattle.text.specs.Digits.{digit, decimalIn, decimal, right}
 use Rattle.text.specs.Laws.Blanks.{blanks-less, blanks-first, digit-before}
 
 -- the digits before the last: none where nothing is left
-abbrev pub higher : ℕ → ℕ → List ℕ
+abbrev higher : ℕ → ℕ → List ℕ
 higher k n = cond (eqb n 0) [] (decimalIn k n)
 
-pub decimal-last : (k n : ℕ) → decimalIn (suc k) n ≡ higher k (n / 10) ++ (digit (n % 10) ∷ [])
+decimal-last : (k n : ℕ) → decimalIn (suc k) n ≡ higher k (n / 10) ++ (digit (n % 10) ∷ [])
 unfolding decimalIn
 decimal-last k n = by-test (ltb n 10) refl
   where
@@ -48,7 +48,7 @@ decimal-most (suc k) n = by-test (ltb n 10) (decimal-most k (n / 10))
     by-test true h = omega arith
     by-test false h = simp length-append (omega arith)
 
-pub decimal-few : (w k n : ℕ) → n < 10 ^ suc w → length (decimalIn k n) ≤ suc w
+decimal-few : (w k n : ℕ) → n < 10 ^ suc w → length (decimalIn k n) ≤ suc w
 unfolding decimalIn
 decimal-few w zero n h = omega arith
 decimal-few zero (suc k) n h = omega (
@@ -75,7 +75,7 @@ right-length w n h = length-append (blanks (w - length (decimal n))) (decimal n)
 )
 
 -- in less of a width, where that is enough
-pub right-narrow : (v w n : ℕ) → length (decimal n) ≤ w → w ≤ v → drop (v - w) (right v n) ≡ right w n
+right-narrow : (v w n : ℕ) → length (decimal n) ≤ w → w ≤ v → drop (v - w) (right v n) ≡ right w n
 unfolding right
 right-narrow v w n h l =
     drop-append-le (v - w) (blanks (v - length (decimal n))) (decimal n) (omega (

@@ -16,7 +16,7 @@ hex-length zero n = refl
 hex-length (suc k) n = length-append (hex k (n / 16)) (hexDigit (n % 16) ∷ []) ∙ omega (arith, hex-length k (n / 16))
 
 -- the higher digits, and then the lower ones
-pub hex-split : (j k n : ℕ) → hex (j + k) n ≡ hex j (n / 16 ^ k) ++ hex k n
+hex-split : (j k n : ℕ) → hex (j + k) n ≡ hex j (n / 16 ^ k) ++ hex k n
 unfolding hex
 hex-split j zero n = sym (append-nil (hex j (n / 1)) ∙ ap₂ hex (sym (add-zero j)) (omega arith))
 hex-split j (suc k) n =
@@ -31,7 +31,7 @@ pub hex-last : (j k n : ℕ) → drop j (hex (j + k) n) ≡ hex k n
 hex-last j k n = ap (drop j) (hex-split j k n) ∙ drop-at (hex j (n / 16 ^ k)) (hex k n) j (hex-length j (n / 16 ^ k))
 
 -- the lower digits say nothing of what is above them
-pub hex-low : (k a b : ℕ) → hex k (a * 16 ^ k + b) ≡ hex k b
+hex-low : (k a b : ℕ) → hex k (a * 16 ^ k + b) ≡ hex k b
 unfolding hex
 hex-low zero a b = refl
 hex-low (suc k) a b =

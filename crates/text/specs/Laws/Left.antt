@@ -1,14 +1,15 @@
 -- A text left-aligned in a width, byte by byte.
 -- Assumes nothing.
-use mathlib.Core.Path.{_≡_, refl, sym, ap, ap₂, _∙_}
-use mathlib.Core.List.{List, [], _∷_, _++_, append-nil, append-assoc}
-use Prim.Native.Nat.{ℕ, zero, suc, _+_, _-_, _<_, _≤_}
+use mathlib.Core.Path.{_≡_, sym, ap, ap₂, _∙_}
+use mathlib.Core.List.{List, _++_, append-nil, append-assoc}
+use Prim.Native.Nat.{ℕ, _+_, _-_, _<_, _≤_}
 use native.Mathlib.Decide.{decLt}
-use native.Mathlib.Nat.{zero-sub, not-suc-le-zero, le-of-suc-le-suc}
+use native.Mathlib.Nat.{zero-sub}
 use native.Mathlib.Numerals.{add-one}
 use native.Mathlib.Omega.{arith}
 use lib.ListN.{length, getD, set, length-append, length-replicate, getD-replicate, List·getD-append, List·getD-eq-default}
 use lib.Seq.{getD-append-add, paste, paste-suc}
+use Rattle.base.specs.Laws.Lists.{getD-inside}
 use Rattle.base.specs.Text.{blanks, left}
 
 pub left-length : (w : ℕ) (t : List ℕ) → length (left w t) ≡ length t + (w - length t)
@@ -35,16 +36,10 @@ left-behind w v t u e = ap (λ (n : ℕ). t ++ u ++ blanks n) less ∙ append-as
 pub left-none : (t : List ℕ) → left 0 t ≡ t
 left-none t = ap (λ (n : ℕ). t ++ blanks n) (zero-sub (length t)) ∙ append-nil t
 
--- what stands at an index inside does not depend on what is given outside
-pub getD-inside : (t : List ℕ) (i : ℕ) → i < length t → getD t i 0 ≡ getD t i 0x20
-getD-inside [] i h = absurd (not-suc-le-zero h)
-getD-inside (x ∷ xs) zero h = refl
-getD-inside (x ∷ xs) (suc i) h = getD-inside xs i (le-of-suc-le-suc h)
-
 pub getD-behind : (t : List ℕ) (i : ℕ) → length t ≤ i → 0x20 ≡ getD t i 0x20
 getD-behind t i h = sym (List·getD-eq-default t 0x20 h)
 
-pub left-at : (w i : ℕ) (t : List ℕ) → i < length (left w t) → getD (left w t) i 0 ≡ getD t i 0x20
+left-at : (w i : ℕ) (t : List ℕ) → i < length (left w t) → getD (left w t) i 0 ≡ getD t i 0x20
 left-at w i t h = by-side (decLt i (length t))
   where
     at-end : length t + (i - length t) ≡ i → getD (left w t) i 0 ≡ 0x20
@@ -53,7 +48,7 @@ left-at w i t h = by-side (decLt i (length t))
         ∙ getD-replicate (w - length t) (i - length t) 0x20 0 (omega (arith, left-length w t))
 
     by-side : Dec (i < length t) → getD (left w t) i 0 ≡ getD t i 0x20
-    by-side (yes l) = List·getD-append t (blanks (w - length t)) 0 i l ∙ getD-inside t i l
+    by-side (yes l) = List·getD-append t (blanks (w - length t)) 0 i l ∙ getD-inside t i 0 0x20 l
     by-side (no l) = at-end (omega arith) ∙ getD-behind t i (omega arith)
 
 -- one byte more of it is written

@@ -42,7 +42,7 @@ pub put-as : (at : ℕ) (t u b e : List ℕ) (r : ℕ) → t ≡ u → Put at t 
 put-as at t u b e r h p = subst (λ v. Put at v b e r) h p
 
 -- bytes keep their number
-pub placed-length : (at : ℕ) (t b e : List ℕ) (r : ℕ) → at + length t ≤ length b → Placed at t b e r → length e ≡ length b
+placed-length : (at : ℕ) (t b e : List ℕ) (r : ℕ) → at + length t ≤ length b → Placed at t b e r → length e ≡ length b
 placed-length at t b e r h p =
     ap length (p .after-is) ∙ length-append (take at b ++ t) (drop (at + length t) b)
     ∙ omega (arith, length-append (take at b) t, length-take-le at b (omega arith), length-drop (at + length t) b)
