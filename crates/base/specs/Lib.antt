@@ -6,7 +6,7 @@
 --     Lists             what is so of every element of a list, lists one after the other, and lists made from an index
 --     Tests             the first number that passes a test
 --     Sums              a finite sum, over any type with a sum of two: so that a proof about any field can speak of it
---     Text              a text as its bytes of ASCII
+--     Text              a text as its bytes of ASCII, blanks, and a text left-aligned in a width
 --     Written           a list that loops write piece after piece, f i at each index i: as far as they have come
 -- What follows from these, which the prover checks: Laws.
 pub mod Bits

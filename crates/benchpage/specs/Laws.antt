@@ -3,9 +3,9 @@
 --     House             a row of the house listing takes five pages at most, and its words are of 32 bits: by computation, once
 --     Named             the row that a failing answer names: it is in the house listing, its pages are few, and it does not hold
 --     Laid              pages laid out over as many bytes as they take, and a row's bytes read into words
---     Shown             what each way out puts is what is printed, and the line of an answer is short
+--     Printed           what each way out puts is what is printed, and the line of an answer is short
 pub mod Lined
 pub mod House
 pub mod Named
 pub mod Laid
-pub mod Shown
+pub mod Printed

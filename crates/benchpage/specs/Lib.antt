@@ -1,8 +1,8 @@
 -- What benchpage prints.
 -- What a reader must believe:
---     Shown             what is printed of the bytes that were read
---     Promises          what the functions inside need
+--     Printed           what is printed of the bytes that were read
+--     Promises          what the functions inside need: only contracts of private functions cite it
 -- What follows from these, which the prover checks: Laws.
-pub mod Shown
+pub mod Printed
 pub mod Promises
 pub mod Laws

@@ -14,7 +14,7 @@ ghost use Rattle.circuit.specs.Circuit.{circuitWords};
 ghost use Rattle.page.specs.declared.BytesAnswer.the-variants.{Of};
 ghost use Rattle.page.specs.Pages.{bytesFor};
 ghost use Rattle.cellprism.specs.Bytes.{rowOf};
-ghost use Rattle.benchpage.specs.Shown.{withLineEnds, pagesOf, shown};
+ghost use Rattle.benchpage.specs.Printed.{withLineEnds, pagesOf, printed};
 ghost use Rattle.benchpage.specs.Promises.{FivePages};
 
 // A line and its end at an index; gives the index behind them.
@@ -83,7 +83,7 @@ fn put_failing(out: &mut [u8], bytes: &[u8], relation: Relation, row: usize) -> 
     ensures { λ r. ⌜ Placed 0 (withLineEnds (pagesOf (rowOf (now (bytes .entry))) relation row)) (now (out .entry)) (now (out .exit)) r ⌝ }
 {
     let mut words = [0u64; layout::ROW_WORDS];
-    cellprism::read_row(bytes, &mut words);
+    cellprism::read_bytes(bytes, &mut words);
     let mut pages = [b' '; 18000];
     put_pages(out, &mut pages, &words, relation, row)
 }
@@ -91,7 +91,7 @@ fn put_failing(out: &mut [u8], bytes: &[u8], relation: Relation, row: usize) -> 
 // Puts what is printed at the start, and gives how many bytes that takes.
 pub fn show(bytes: &[u8], out: &mut [u8]) -> usize
     requires { ⌜ 18300 ≤ length (now out) ⌝ }
-    ensures { λ r. ⌜ Placed 0 (shown (now (bytes .entry))) (now (out .entry)) (now (out .exit)) r ⌝ }
+    ensures { λ r. ⌜ Placed 0 (printed (now (bytes .entry))) (now (out .entry)) (now (out .exit)) r ⌝ }
 {
     let answer = cellprism::check_bytes(bytes);
     match answer {

@@ -62,7 +62,7 @@ pub fn check_bytes(bytes: &[u8]) -> CheckAnswer
 }
 
 // Reads the bytes of one row into its words: question 2, of both.
-pub fn read_row(bytes: &[u8], words: &mut [u64]) -> Asked
+pub fn read_bytes(bytes: &[u8], words: &mut [u64]) -> Asked
     ensures { λ r. ⌜ _≡_ {A = Called} (record { answer = r; batch = now (words .exit) })
         (readCalled (now (bytes .entry)) (now (words .entry))) ⌝ }
 {

@@ -7,11 +7,10 @@ use native.Mathlib.Omega.{arith}
 use borrow.Author.Tests.{lt-ltb, eq-eqb}
 use lib.ListN.{length}
 use Rattle.base.specs.Laws.Tests.{passed}
-use Rattle.layout.specs.declared.Asked.{Asked}
 use Rattle.layout.specs.declared.Asked.the-variants.{Yes}
 use Rattle.layout.specs.declared.Refusal.{Refusal}
 use Rattle.layout.specs.Batch.{allowed, ROW-WORDS, batchAsked}
-use Rattle.layout.specs.Questions.{Called, after}
+use Rattle.layout.specs.Questions.{Called}
 use Rattle.layout.specs.Laws.Questions.{if-yes, yes-batch}
 use Rattle.circuit.specs.declared.Relation.{Relation}
 use Rattle.circuit.specs.declared.search.Found.{Found}
@@ -23,7 +22,8 @@ use Rattle.page.specs.declared.BytesAnswer.the-variants.{Of, Refused as NoBytes
 use Rattle.page.specs.Lines.{rowLines}
 use Rattle.page.specs.Pages.{Laid, laid, pages, bytesAt, bytesFor, laidAt, laidOut}
 use Rattle.cellprism.specs.Bytes.{rowOf, readCalled}
-use Rattle.benchpage.specs.Shown.{sidesIn, sidesOf, pagesOf}
+use Rattle.cellprism.specs.Laws.Read.{read-yes}
+use Rattle.benchpage.specs.Printed.{sidesIn, sidesOf, pagesOf}
 use Rattle.benchpage.specs.Promises.{FivePages}
 
 bytesIn : BytesAnswer → ℕ
@@ -73,7 +73,4 @@ pages-laid words rel n listing there house room taken l e =
 
 pub row-words : (bytes there : List ℕ) → length bytes ≡ 65536 → length there ≡ ROW-WORDS → (c : Called) → c ≡ readCalled bytes there
     → c .batch ≡ rowOf bytes
-unfolding readCalled
-row-words bytes there whole room c e =
-    ap (λ (c : Called). c .batch) e
-    ∙ ap (λ (q : Asked). after q (rowOf bytes) there .batch) (sym (passed _ _ _ (eq-eqb _ _ room) ∙ passed _ _ _ (eq-eqb _ _ whole)))
+row-words bytes there whole room c e = ap (λ (c : Called). c .batch) (e ∙ read-yes bytes there whole room)

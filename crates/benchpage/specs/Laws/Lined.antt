@@ -8,7 +8,7 @@ use native.Mathlib.Omega.{arith}
 use lib.ListN.{take, drop}
 use lib.Seq.{drop-drop}
 use Rattle.base.specs.Text.{ascii}
-use Rattle.benchpage.specs.Shown.{lined}
+use Rattle.benchpage.specs.Printed.{lined}
 
 -- one line more
 pub lined-more : (i : ℕ) (text : List ℕ) → lined i text ++ (take 60 (drop (60 * i) text) ++ ascii "\n") ≡ lined (i + 1) text

@@ -29,7 +29,7 @@ use Rattle.verdict.specs.Laws.Shown.{failed-names}
 use Rattle.cellprism.specs.Bytes.{rowOf}
 use Rattle.cellprism.specs.Answer.{rowChecked}
 use Rattle.cellprism.specs.Laws.Packing.{row-asked}
-use Rattle.benchpage.specs.Shown.{sidesIn, sidesOf}
+use Rattle.benchpage.specs.Printed.{sidesIn, sidesOf}
 use Rattle.benchpage.specs.Promises.{FivePages}
 use Rattle.benchpage.specs.Laws.House.{house-words, row-opened, five-pages}
 

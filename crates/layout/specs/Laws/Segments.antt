@@ -151,7 +151,7 @@ pub length-name : (c : ℕ) → length (padded (segmentName c)) ≡ 9
 unfolding segmentName
 length-name c = length-padded (nameIn segments c) (name-fits segments segments-fit c)
 
--- ---- by computation: the first and the last column of every segment, by its number in document 01, and columns that have none
+-- ---- by computation: the first and the last column of every segment, by their numbers, and columns that have none
 
 abbrev firsts : List ℕ
 firsts =

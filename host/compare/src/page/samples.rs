@@ -1,4 +1,4 @@
-//! Pages written out by hand from document 02, before the product and before this crate's layout.
+//! Pages written out by hand from document 02, which both the product and this crate's layout must give.
 
 use super::call::{Call, OF_A_ROW};
 use super::lines::{on_pages, pages};

@@ -4,7 +4,7 @@ use mathlib.Core.Path.{ap}
 use borrow.Author.Needs.{needs}
 use denote.Ref.{now}
 use Rattle.text.specs.Laws.Put.{placed-as}
-use Rattle.benchpage.specs.Shown.{withLineEnds}
+use Rattle.benchpage.specs.Printed.{withLineEnds}
 use Rattle.benchpage.specs.Laws.Laid.{pages-laid}
 use Rattle.benchpage.proofs.show.put_laid.Statement.{statement}
 use Rattle.benchpage.proofs.show.put_laid.Tie as tie

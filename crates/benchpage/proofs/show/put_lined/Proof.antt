@@ -11,7 +11,7 @@ use lib.Seq.{length-take-le}
 use Rattle.base.specs.Text.{ascii}
 use Rattle.text.specs.Put.{Placed}
 use Rattle.text.specs.Laws.Put.{placed-then, placed-as, placed-none}
-use Rattle.benchpage.specs.Shown.{lined}
+use Rattle.benchpage.specs.Printed.{lined}
 use Rattle.benchpage.specs.Laws.Lined.{lined-more}
 use Rattle.benchpage.proofs.show.put_lined.Statement.{statement}
 use Rattle.benchpage.proofs.show.put_lined.Tie as tie

@@ -4,7 +4,8 @@ use native.Mathlib.Omega.{arith}
 use borrow.Author.Needs.{needs}
 use denote.Ref.{now}
 use Rattle.text.specs.Laws.Put.{put-fits, placed-as}
-use Rattle.benchpage.specs.Laws.Shown.{verdict-short, line-short, refused-shown, accepted-shown, failed-shown, failed-named}
+use Rattle.page.specs.Laws.Line.{verdict-short, line-short}
+use Rattle.benchpage.specs.Laws.Printed.{refused-printed, accepted-printed, failed-printed, failed-named}
 use Rattle.benchpage.proofs.show.show.Statement.{statement}
 use Rattle.benchpage.proofs.show.show.Tie as tie
 
@@ -17,7 +18,7 @@ put-failing-requires c κs =
 returns : tie.Need-returns
 returns c =
     let p = c .before .before in let t = p .before .before in let k = t .before .before in let start = k .before .before .before in
-    placed-as _ _ _ _ _ _ (refused-shown (now (start .args .bytes)) _ (k .check-bytes .ensures) _ (t .enum-told .given .1))
+    placed-as _ _ _ _ _ _ (refused-printed (now (start .args .bytes)) _ (k .check-bytes .ensures) _ (t .enum-told .given .1))
     (put-fits _ _ _ _ _ (omega (arith, line-short (k .check-bytes .result))) (p .put-answer .ensures))
 
 returns-2 : tie.Need-returns-2
@@ -25,7 +26,7 @@ returns-2 c =
     let p = c .before .before in let t = p .before .before in let j = t .before .before .before in let k = j .before .before in
     let start = k .before .before .before in
     placed-as _ _ _ _ _ _
-    (accepted-shown (now (start .args .bytes)) _ (k .check-bytes .ensures) _ _ (j .answer .given .1) (t .enum-told2 .given .1))
+    (accepted-printed (now (start .args .bytes)) _ (k .check-bytes .ensures) _ _ (j .answer .given .1) (t .enum-told2 .given .1))
     (put-fits _ _ _ _ _ (omega (arith, verdict-short (j .answer .given .0 .0))) (p .put-answer2 .ensures))
 
 returns-3 : tie.Need-returns-3
@@ -33,7 +34,7 @@ returns-3 c =
     let p = c .before .before in let f = p .before .before .before in let j = f .before .before .before in let k = j .before .before in
     let start = k .before .before .before in
     placed-as _ _ _ _ _ _
-    (failed-shown (now (start .args .bytes)) _ (k .check-bytes .ensures) _ _ _ _ (j .answer .given .1) (f .v .given .1))
+    (failed-printed (now (start .args .bytes)) _ (k .check-bytes .ensures) _ _ _ _ (j .answer .given .1) (f .v .given .1))
     (p .put-failing .ensures)
 
 pub show-spec : {M : Type 1} → statement M

@@ -42,10 +42,10 @@ unfoldable pub pagesOf : List ℕ → Relation → ℕ → List ℕ
 pagesOf words rel n = pages (rowLines 1 words 0 rel n (sidesOf circuitWords rel n))
 
 -- where the check fails, the pages of the row that it names (of one cycle, the batch row is the listing's); else rowcheck's line
-abbrev pub answerShown : List ℕ → CheckAnswer → List ℕ
-answerShown words (Judged (Failed rel n rows)) = withLineEnds (pagesOf words rel n)
-answerShown words (Judged (Accepted rows)) = answerLine (Judged (Accepted rows))
-answerShown words (Refused r) = answerLine (Refused r)
+abbrev pub answerPrinted : List ℕ → CheckAnswer → List ℕ
+answerPrinted words (Judged (Failed rel n rows)) = withLineEnds (pagesOf words rel n)
+answerPrinted words (Judged (Accepted rows)) = answerLine (Judged (Accepted rows))
+answerPrinted words (Refused r) = answerLine (Refused r)
 
-unfoldable pub shown : List ℕ → List ℕ
-shown bytes = answerShown (rowOf bytes) (rowChecked bytes)
+unfoldable pub printed : List ℕ → List ℕ
+printed bytes = answerPrinted (rowOf bytes) (rowChecked bytes)

@@ -1,4 +1,4 @@
--- `cellprism::read_row` meets its contract: question 2 picks the case; where it is passed, the words are read.
+-- `cellprism::read_bytes` meets its contract: question 2 picks the case; where it is passed, the words are read.
 -- Assumes nothing.
 use mathlib.Core.Path.{_≡_, ap, _∙_}
 use mathlib.Core.List.{List}
@@ -12,8 +12,8 @@ use Rattle.layout.specs.declared.Asked.{Asked}
 use Rattle.layout.specs.declared.Asked.the-variants.{Yes, No}
 use Rattle.layout.specs.Questions.{after}
 use Rattle.cellprism.specs.Bytes.{wordsOf, rowOf, readAsked, readCalled}
-use Rattle.cellprism.proofs.read_row.Statement.{statement}
-use Rattle.cellprism.proofs.read_row.Tie as tie
+use Rattle.cellprism.proofs.read_bytes.Statement.{statement}
+use Rattle.cellprism.proofs.read_bytes.Tie as tie
 
 -- what the questions come to is the case
 told : (bytes there : List ℕ) (q : Asked) → q ≡ readAsked (length bytes) (length there)
@@ -39,8 +39,8 @@ returns-3 c =
     (r .read-words .ensures ∙ ap (λ (n : ℕ). wordsOf n (now (a .bytes))) (j .if2 .left))
     ∙ told (now (a .bytes)) (now (a .words)) Yes (passed _ _ _ (eq-eqb _ _ (j .if2 .left)) ∙ passed _ _ _ (eq-eqb _ _ (i .if1 .left)))
 
-pub read-row-spec : {M : Type 1} → statement M
-read-row-spec =
+pub read-bytes-spec : {M : Type 1} → statement M
+read-bytes-spec =
     tie.close
     (tie.spec (λ c. search needs) (λ c κs. search needs) returns (λ c κs. search needs) returns-2 (λ c κs. search needs)
     (λ c. search needs) returns-3)
