@@ -3,7 +3,7 @@
 --     House             a row of the house listing takes five pages at most, and its words are of 32 bits: by computation, once
 --     Named             the row that a failing answer names: it is in the house listing, its pages are few, and it does not hold
 --     Laid              pages laid out over as many bytes as they take, and a row's bytes read into words
---     Printed           what each way out puts is what is printed, and the line of an answer is short
+--     Printed           what each way out puts is what is printed
 pub mod Lined
 pub mod House
 pub mod Named
