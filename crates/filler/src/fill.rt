@@ -19,9 +19,10 @@ use layout::columns::STORE_SRC;
 use layout::columns::TAKEN;
 use layout::columns::ZERO;
 ghost use mathlib.Core.Path.{_≡_};
-ghost use Prim.Native.Nat.{_+_, _*_, _<_, _≤_};
+ghost use mathlib.Core.Bool.{true};
+ghost use Prim.Native.Nat.{_+_, _*_, _^_, _<_};
 ghost use lib.ListN.{length};
-ghost use Rattle.layout.specs.Batch.{batchWords};
+ghost use Rattle.layout.specs.Batch.{allowed, batchWords};
 ghost use Rattle.verdict.specs.Promises.{Cycle};
 ghost use Rattle.step.specs.Derived.{derived};
 ghost use Rattle.step.specs.Filling.{filled};
@@ -41,26 +42,27 @@ fn is_derived(column: usize) -> bool
         | ((1024 <= column) & (column <= 1126))
 }
 
-// A given column above 1. Nearly every column is a bit, so that is asked first.
-fn is_faulty(cpi: usize, batch: &[u64], at: usize) -> bool
-    requires { ⌜ (0 < cpi) × (2 * at + 1 < length (now batch)) ⌝ }
-    ensures { λ r. ⌜ r ≡ faulty cpi (now (batch .entry)) at ⌝ }
+// A given column above 1, in a batch of 2^k cycles. Nearly every column is a bit, so that is asked first.
+fn is_faulty(k: u32, batch: &[u64], at: usize) -> bool
+    requires { ⌜ (k < 9) × (2 * at + 1 < length (now batch)) ⌝ }
+    ensures { λ r. ⌜ r ≡ faulty (2 ^ k) (now (batch .entry)) at ⌝ }
 {
     if element(batch, at).is_bit() {
         return false;
     }
-    !is_derived(at / cpi)
+    !is_derived(at >> k)
 }
 
 // The smallest batch column among the given ones that is above 1, or the number of witness columns where none is.
 fn first_faulty(cpi: usize, batch: &[u64]) -> usize
-    requires { ⌜ (0 < cpi) × ((cpi ≤ 256) × (length (now batch) ≡ batchWords cpi)) ⌝ }
+    requires { ⌜ (allowed cpi ≡ true) × (length (now batch) ≡ batchWords cpi) ⌝ }
     ensures { λ r. ⌜ r ≡ firstFaulty cpi (now (batch .entry)) ⌝ }
 {
     let columns = 2048 * cpi;
+    let k = layout::exponent(cpi);
     let mut i: usize = 0;
     while i < columns {
-        if is_faulty(cpi, batch, i) {
+        if is_faulty(k, batch, i) {
             return i;
         }
         i = i + 1;
@@ -70,7 +72,7 @@ fn first_faulty(cpi: usize, batch: &[u64]) -> usize
 
 // Questions 11 and 12.
 fn ask_columns(cpi: usize, batch: &[u64]) -> Asked
-    requires { ⌜ (0 < cpi) × ((cpi ≤ 256) × (length (now batch) ≡ batchWords cpi)) ⌝ }
+    requires { ⌜ (allowed cpi ≡ true) × (length (now batch) ≡ batchWords cpi) ⌝ }
     ensures { λ r. ⌜ r ≡ columnsAsked cpi (now (batch .entry)) ⌝ }
 {
     let place = first_faulty(cpi, batch);

@@ -1,9 +1,11 @@
--- A batch: its sizes, questions 1, 2 and 5, its geometry, and where the columns of its cycles stand (document 01, "Columns").
+-- A batch: its sizes and their exponents, questions 1, 2 and 5, its geometry, and where the columns of its cycles stand (document 01,
+-- "Columns").
 -- Assumes nothing.
 use mathlib.Core.Bool.{Bool, false, cond, _||_}
 use mathlib.Core.List.{List, [], _∷_}
-use Prim.Native.Nat.{ℕ, _+_, _-_, _*_, _/_, _%_}
+use Prim.Native.Nat.{ℕ, _+_, _-_, _*_, _/_, _%_, _^_}
 use lib.Dec.{eqb, ltb}
+use Rattle.base.specs.Tests.{firstFrom}
 use Rattle.layout.specs.declared.Asked.{Asked}
 use Rattle.layout.specs.declared.Asked.the-variants.{Yes, No}
 use Rattle.layout.specs.declared.GeometryAnswer.{GeometryAnswer}
@@ -26,6 +28,10 @@ among n (x ∷ xs) = eqb n x || among n xs
 -- question 1
 unfoldable pub allowed : ℕ → Bool
 allowed cpi = among cpi sizes
+
+-- the exponent of a size: the first k below 9 with 2 ^ k equal to cpi. A number that is no size has none of these, and gets 9
+unfoldable pub exponentOf : ℕ → ℕ
+exponentOf cpi = firstFrom (λ k. eqb (2 ^ k) cpi) 0 9
 
 -- the words of a row, which is a batch of one cycle: 4,096 elements, of two words each; and those of a batch
 abbrev pub ROW-WORDS : ℕ

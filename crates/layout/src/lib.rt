@@ -9,7 +9,7 @@ ghost use mathlib.Core.Path.{_≡_};
 ghost use mathlib.Core.Bool.{true};
 ghost use Prim.Native.Nat.{_<_, _≤_};
 ghost use Rattle.layout.specs.Questions.{no};
-ghost use Rattle.layout.specs.Batch.{DEFAULT-CPI, allowed, batchAsked, scratchFits, geometryOf, columnAt, mapped, unmapped};
+ghost use Rattle.layout.specs.Batch.{DEFAULT-CPI, allowed, exponentOf, batchAsked, scratchFits, geometryOf, columnAt, mapped, unmapped};
 
 pub const DEFAULT_CPI: usize = 1; // cycles of a batch where nobody chooses
 
@@ -63,14 +63,22 @@ pub fn refused(number: u8) -> Refusal
     Refusal { number, place: 0 }
 }
 
+// The exponent of a batch size: 2 to it is cpi. A number that is no size gets 9.
+pub fn exponent(cpi: usize) -> u32
+    ensures { λ r. ⌜ r ≡ exponentOf cpi ⌝ }
+{
+    let k = usize::trailing_zeros(cpi);
+    if 8 < k {
+        return 9;
+    }
+    if 1 << k == cpi { k } else { 9 }
+}
+
 // Question 1: a batch has a power of two of cycles, 1 to 256.
 pub fn is_allowed(cpi: usize) -> bool
     ensures { λ r. ⌜ r ≡ allowed cpi ⌝ }
 {
-    if cpi == 0 {
-        return false;
-    }
-    256 % cpi == 0
+    exponent(cpi) < 9
 }
 
 // Questions 1 and 2, of the number of a batch's words.
@@ -158,7 +166,8 @@ pub fn map_z_col(cpi: usize, column: usize, cycle: usize) -> ColumnAnswer
     map_below(M, cpi, column, cycle)
 }
 
-// The way back: which column of which cycle stands at a batch column below one_col.
+// The way back: which column of which cycle stands at a batch column below one_col. Sizes are powers of two, so that a shift is the
+// quotient by cpi, and a mask the remainder.
 pub fn unmap_col(cpi: usize, batch_column: usize) -> CycleColumnAnswer
     ensures { λ r. ⌜ r ≡ unmapped cpi «batch_column» ⌝ }
 {
@@ -169,7 +178,7 @@ pub fn unmap_col(cpi: usize, batch_column: usize) -> CycleColumnAnswer
         return CycleColumnAnswer::Refused(refused(14));
     }
     CycleColumnAnswer::At {
-        column: batch_column / cpi,
-        cycle: batch_column % cpi,
+        column: batch_column >> exponent(cpi),
+        cycle: batch_column & (cpi - 1),
     }
 }

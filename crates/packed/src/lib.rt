@@ -35,7 +35,7 @@ fn pack_many(cpi: usize, batch: &[u64], acc: &mut [u64], out: &mut [u64]) -> u64
     requires { ⌜ NamedIn cpi (now batch) (now out) × (length (now acc) ≡ cpi) ⌝ }
     ensures { λ r. ⌜ Named cpi (now (batch .entry)) (now (out .entry)) (now (out .exit)) r ⌝ }
 {
-    let step = batch.len() / (4096 * cpi);
+    let step = (batch.len() >> layout::exponent(cpi)) / 4096;
     let low = many::pack_words(cpi, batch, step, 0, 15, acc, out);
     let high = many::pack_words(cpi, batch, step, 16, 18, acc, out);
     low | high

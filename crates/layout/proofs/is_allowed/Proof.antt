@@ -1,19 +1,15 @@
--- `layout::is_allowed` meets its contract: the sizes are the divisors of 256.
+-- `layout::is_allowed` meets its contract: sizes are the numbers that have an exponent.
 -- Assumes nothing.
-use mathlib.Core.Path.{sym, ap}
+use mathlib.Core.Path.{ap, _∙_}
+use Prim.Native.Nat.{ℕ}
 use borrow.Author.Needs.{needs}
-use native.Mathlib.Omega.{arith}
-use Rattle.layout.specs.Batch.{allowed}
-use Rattle.layout.specs.Laws.Sizes.{divides}
+use lib.Dec.{ltb}
+use Rattle.layout.specs.Laws.Exponent.{exponent-allowed}
 use Rattle.layout.proofs.is_allowed.Statement.{statement}
 use Rattle.layout.proofs.is_allowed.Tie as tie
 
 returns : tie.Need-returns
-unfolding allowed
-returns c = sym (ap allowed (c .if1 .taken))
-
-returns-2 : tie.Need-returns-2
-returns-2 c = divides _ (omega arith)
+returns c = ap (λ (k : ℕ). ltb k 9) (c .exponent .ensures) ∙ exponent-allowed _
 
 pub is-allowed-spec : {M : Type 1} → statement M
-is-allowed-spec = tie.close (tie.spec returns (λ c. search needs) returns-2)
+is-allowed-spec = tie.close (tie.spec (λ c κs. search needs) returns)

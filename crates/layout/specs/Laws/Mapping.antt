@@ -1,7 +1,7 @@
--- The mapping and the way back undo each other below one_col, for every size, and no two columns of cycles meet.
+-- The mapping and the way back undo each other below one_col, for every size, and refuse the rest; no two columns of cycles meet.
 -- Assumes nothing.
-use mathlib.Core.Path.{_≡_, sym, ap, ap₂, _∙_}
-use mathlib.Core.Bool.{true}
+use mathlib.Core.Path.{_≡_, refl, sym, ap, ap₂, _∙_}
+use mathlib.Core.Bool.{true, false}
 use Prim.Native.Nat.{ℕ, _+_, _-_, _*_, _/_, _%_, _≤_, _<_}
 use native.Mathlib.Decide.{decLt}
 use native.Mathlib.Nat.{mul-one, mod-lt, div-add-mod', div-lt-iff-lt-mul}
@@ -9,8 +9,9 @@ use native.Mathlib.Omega.{arith}
 use borrow.Author.Tests.{lt-ltb, le-ltb}
 use lib.Arith.{digits-lt, digits-div, digits-mod}
 use Rattle.base.specs.Laws.Tests.{passed, refused}
-use Rattle.layout.specs.declared.ColumnAnswer.the-variants.{At}
-use Rattle.layout.specs.declared.CycleColumnAnswer.the-variants.{At as In}
+use Rattle.layout.specs.declared.ColumnAnswer.the-variants.{At, Refused as NoColumn}
+use Rattle.layout.specs.declared.CycleColumnAnswer.the-variants.{At as In, Refused as NoCycleColumn}
+use Rattle.layout.specs.Questions.{no as refusal}
 use Rattle.layout.specs.Batch.{allowed, columnAt, mapped, unmapped}
 use Rattle.layout.specs.Laws.Sizes.{allowed-range}
 
@@ -75,6 +76,33 @@ module _ (cpi : ℕ) (ok : allowed cpi ≡ true) where
       sym
       (passed _ _ _ (lt-ltb (b % cpi) cpi hd) ∙ passed _ _ _ (lt-ltb (b / cpi) 2048 hc) ∙ passed _ _ _ ok)
       ∙ ap At (witness-column cpi (b / cpi) (b % cpi) hc ∙ div-add-mod' b cpi)
+
+  -- ---- what is refused: a column past the limit, before a cycle past the batch; and, on the way back, a batch column from one_col on
+
+  pub column-refused : (limit c d : ℕ) → limit ≤ c → mapped limit cpi c d ≡ NoColumn (refusal 14 0)
+  unfolding mapped
+  column-refused limit c d h = sym (refused _ _ _ (le-ltb c limit h) ∙ passed _ _ _ ok)
+
+  pub cycle-refused : (limit c d : ℕ) → c < limit → cpi ≤ d → mapped limit cpi c d ≡ NoColumn (refusal 15 0)
+  unfolding mapped
+  cycle-refused limit c d hc h = sym (refused _ _ _ (le-ltb d cpi h) ∙ passed _ _ _ (lt-ltb c limit hc) ∙ passed _ _ _ ok)
+
+  pub back-refused : (b : ℕ) → 2048 * cpi ≤ b → unmapped cpi b ≡ NoCycleColumn (refusal 14 0)
+  unfolding unmapped
+  back-refused b h = sym (refused _ _ _ (le-ltb b (2048 * cpi) h) ∙ passed _ _ _ ok)
+
+-- and first of all a number that is no size
+pub size-refused : (cpi limit c d b : ℕ) → allowed cpi ≡ false
+    → (mapped limit cpi c d ≡ NoColumn (refusal 1 0)) × (unmapped cpi b ≡ NoCycleColumn (refusal 1 0))
+unfolding mapped unmapped
+size-refused cpi limit c d b e = (sym (refused _ _ _ e), sym (refused _ _ _ e))
+
+-- by numbers: four cycles have batch columns 0 to 8,191, and three are no size
+pub given-ways : (mapped 2048 4 5 2 ≡ At 22) × (unmapped 4 22 ≡ In 5 2) × (unmapped 4 8191 ≡ In 2047 3)
+    × (unmapped 4 8192 ≡ NoCycleColumn (refusal 14 0)) × (unmapped 3 22 ≡ NoCycleColumn (refusal 1 0))
+    × (unmapped 3 8192 ≡ NoCycleColumn (refusal 1 0))
+unfolding mapped unmapped columnAt allowed
+given-ways = (refl, refl, refl, refl, refl, refl)
 
 -- distinct columns of cycles stand at distinct batch columns
 pub columns-apart : (cpi c d e f : ℕ) → c < 2048 → d < cpi → e < 2048 → f < cpi → columnAt cpi c d ≡ columnAt cpi e f → (c ≡ e) × (d ≡ f)

@@ -4,7 +4,7 @@ use mathlib.Core.Path.{_≡_, refl, sym, ap, ap₂, subst, _∙_}
 use mathlib.Core.Logic.{_↔_, ⊎-elim}
 use mathlib.Core.Bool.{Bool, true, cond, not, _&&_}
 use mathlib.Core.List.{List}
-use Prim.Native.Nat.{ℕ, zero, suc, _+_, _*_, _/_, _%_, _≤_, _<_}
+use Prim.Native.Nat.{ℕ, zero, suc, _+_, _*_, _/_, _%_, _^_, _≤_, _<_}
 use native.Mathlib.Decide.{ℕ-discrete, decLt}
 use native.Mathlib.Nat.{eq-or-lt-of-le, mod-lt, div-add-mod', div-lt-iff-lt-mul, le-div-iff-mul-le, mul-le-mul-right, zero-add, zero-mul, add-mul, mul-div-cancel}
 use native.Mathlib.Omega.{arith}
@@ -21,10 +21,11 @@ use Rattle.base.specs.Laws.From.{length-from, getD-from}
 use Rattle.base.specs.Laws.Compared.{or-none}
 use Rattle.field.specs.Gf.{isBit}
 use Rattle.layout.specs.declared.Asked.the-variants.{Yes, No}
-use Rattle.layout.specs.Batch.{allowed, batchWords, batchAsked}
+use Rattle.layout.specs.Batch.{allowed, exponentOf, batchWords, batchAsked}
 use Rattle.layout.specs.Questions.{no as refusal}
 use Rattle.layout.specs.Laws.Questions.{answered, both-yes, if-yes, if-no, batch-yes, yes-batch}
 use Rattle.layout.specs.Laws.Sizes.{allowed-range}
+use Rattle.layout.specs.Laws.Exponent.{shift-and-mask}
 use Rattle.verdict.specs.Row.{elementAt}
 use Rattle.packed.specs.declared.Packing.{Packing}
 use Rattle.packed.specs.declared.Packing.the-variants.{Refused}
@@ -70,10 +71,10 @@ module _ (cpi : ℕ) (batch out : List ℕ) (h : NamedIn cpi batch out) where
   some-cycles = allowed-range cpi (h .size) .0
 
   -- the length holds two words for each of 4,096 columns of each cycle
-  pub two-words : length batch / (4096 * cpi) ≡ 2
-  two-words =
-      ap (λ (n : ℕ). n / (4096 * cpi)) (h .words ∙ omega arith)
-      ∙ mul-div-cancel 2 {n = 4096 * cpi} (omega (arith, some-cycles))
+  pub two-words : (k : ℕ) → k ≡ exponentOf cpi → length batch / 2 ^ k / 4096 ≡ 2
+  two-words k e =
+      ap (λ (n : ℕ). n / 4096) (ap (λ (i : ℕ). length batch / 2 ^ i) e ∙ shift-and-mask cpi (length batch) (h .size) .0
+      ∙ ap (λ (n : ℕ). n / cpi) (h .words) ∙ mul-div-cancel 8192 {n = cpi} some-cycles)
 
   pub range-in : (first last : ℕ) (now : List ℕ) → length now ≡ length out → first ≤ last → last ≤ 32 → RangeIn cpi batch first last now
   range-in first last now e l m =

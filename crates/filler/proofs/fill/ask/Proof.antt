@@ -3,15 +3,12 @@
 use mathlib.Core.Path.{sym, _∙_}
 use borrow.Author.Needs.{needs}
 use Rattle.layout.specs.Laws.Questions.{batch-yes, asking}
-use Rattle.layout.specs.Laws.Sizes.{allowed-range}
 use Rattle.step.specs.Fill.{fillAsked}
 use Rattle.filler.proofs.fill.ask.Statement.{statement}
 use Rattle.filler.proofs.fill.ask.Tie as tie
 
 ask-columns-requires : tie.Need-ask-columns-requires
-ask-columns-requires c κs =
-    let yes = batch-yes _ _ (sym (c .before .before .ask-batch .ensures) ∙ c .enum-told .given .1) in let r = allowed-range _ (yes .0) in
-    (r .0, (r .1, yes .1))
+ask-columns-requires c κs = batch-yes _ _ (sym (c .before .before .ask-batch .ensures) ∙ c .enum-told .given .1)
 
 pub ask-spec : {M : Type 1} → statement M
 unfolding fillAsked

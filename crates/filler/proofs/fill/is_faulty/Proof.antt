@@ -2,6 +2,7 @@
 -- Assumes nothing.
 use mathlib.Core.Path.{sym, ap, ap₂, _∙_}
 use mathlib.Core.Bool.{Bool, not, _&&_}
+use Prim.Native.Nat.{_^_}
 use borrow.Author.Needs.{needs}
 use Rattle.field.specs.Gf.{isBit}
 use Rattle.step.specs.Derived.{derivedIn}
@@ -11,7 +12,7 @@ use Rattle.filler.proofs.fill.is_faulty.Tie as tie
 returns : tie.Need-returns
 returns c =
     let t = c .before in let e = t .before in let a = e .before .before .args in
-    ap (λ (b : Bool). not b && not (derivedIn (a .cpi) (a .at))) (sym (c .if1 .taken) ∙ t .is-bit .ensures ∙ ap isBit (e .element .ensures))
+    ap (λ (b : Bool). not b && not (derivedIn (2 ^ a .k) (a .at))) (sym (c .if1 .taken) ∙ t .is-bit .ensures ∙ ap isBit (e .element .ensures))
 
 returns-2 : tie.Need-returns-2
 returns-2 c =
