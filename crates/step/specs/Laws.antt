@@ -3,6 +3,7 @@
 --     Answers           accepted and failing, of the check as it is called: a refused batch is neither
 --     Batch             a batch's fillings, cycle by cycle
 --     BinRows           the bin rows over bits, as far as they are not solved as they stand
+--     BitTest           the bit test of given batches of every size: a column that is no bit is named, whatever bits stand elsewhere
 --     BranchRow         a cycle that is a branch and nothing else: what its words read, and that it meets the conditions
 --     Branches          the taken clause met by every branch: each size, each funct3, any two words
 --     Chosen            a batch of any size from any choice of bits meets demand 3's premises
@@ -34,6 +35,7 @@ pub mod Alone
 pub mod Answers
 pub mod Batch
 pub mod BinRows
+pub mod BitTest
 pub mod BranchRow
 pub mod Branches
 pub mod Chosen

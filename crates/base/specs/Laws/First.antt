@@ -2,10 +2,12 @@
 -- Assumes nothing.
 use mathlib.Core.Path.{_≡_, refl, sym, ap, _∙_}
 use mathlib.Core.Logic.{⊎-elim}
-use mathlib.Core.Bool.{Bool, true, false, cond}
+use mathlib.Core.Bool.{Bool, true, false, cond, true≢false}
 use Prim.Native.Nat.{ℕ, zero, suc, _+_, _-_, _<_, _≤_}
 use native.Mathlib.Nat.{add-zero, eq-or-lt-of-le}
 use native.Mathlib.Omega.{arith}
+use borrow.Author.Tests.{ltb-true, ltb-false}
+use lib.Dec.{ltb}
 use Rattle.base.specs.Tests.{firstFrom}
 
 -- ---- the search: a turn at i with up to the limit to go
@@ -61,3 +63,15 @@ module _ (test : ℕ → Bool) where
   first-none (suc n) i h =
       ap (λ (b : Bool). cond b i (firstFrom test (i + 1) n)) (h i (omega arith) (omega arith))
       ∙ first-none n (i + 1) (λ k l m. h k (omega arith) (omega arith)) ∙ omega arith
+
+  -- it is the one that is known to pass, and before which none does
+  pub first-at : (n x : ℕ) → x < n → test x ≡ true → ((k : ℕ) → k < x → test k ≡ false) → firstFrom test 0 n ≡ x
+  first-at n x l t none = go (ltb f x) (ltb x f) refl refl
+    where
+      f : ℕ
+      f = firstFrom test 0 n
+
+      go : (i j : Bool) → ltb f x ≡ i → ltb x f ≡ j → f ≡ x
+      go true j p q = let m = ltb-true f x p in absurd (true≢false (sym (first-passes n 0 (omega arith)) ∙ none f m))
+      go false true p q = absurd (true≢false (sym t ∙ first-least n 0 x (omega arith) (ltb-true x f q)))
+      go false false p q = let m = ltb-false f x p in let k = ltb-false x f q in omega arith

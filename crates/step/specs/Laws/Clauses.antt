@@ -11,7 +11,7 @@ use borrow.Author.Tests.{eq-eqb}
 use lib.Arith.{digits-lt, digits-div}
 use lib.Dec.{eqb}
 use lib.ListN.{length, set, length-set}
-use lib.Seq.{getD-set-other}
+use lib.Seq.{getD-set-same, getD-set-other}
 use Rattle.base.specs.Bits.{digit, val}
 use Rattle.base.specs.Laws.Cases.{no-true}
 use Rattle.field.specs.declared.Gf128.{Gf128}
@@ -45,6 +45,12 @@ replaced w x l h = set (set w (2 * x) l) (2 * x + 1) h
 
 pub replaced-length : (w : List ℕ) (x l h : ℕ) → length (replaced w x l h) ≡ length w
 replaced-length w x l h = length-set (set w (2 * x) l) (2 * x + 1) h ∙ length-set w (2 * x) l
+
+pub replaced-here : (w : List ℕ) (x l h : ℕ) → 2 * x + 1 < length w → elementAt (replaced w x l h) x ≡ ofWords l h
+replaced-here w x l h m =
+    ap₂ ofWords
+    (getD-set-other (set w (2 * x) l) (2 * x + 1) (2 * x) h 0 (omega arith) ∙ getD-set-same w (2 * x) l 0 (omega arith))
+    (getD-set-same (set w (2 * x) l) (2 * x + 1) h 0 (omega (arith, length-set w (2 * x) l)))
 
 pub replaced-other : (w : List ℕ) (x l h y : ℕ) → (y ≡ x → ⊥) → elementAt (replaced w x l h) y ≡ elementAt w y
 replaced-other w x l h y apart =

@@ -1,18 +1,16 @@
 -- The filler's refusals 11 and 12, of given batches of every size: the number, the place, and the batch as it came.
 -- Assumes nothing.
-use mathlib.Core.Path.{_≡_, refl, sym, ap, ap₂, _∙_}
-use mathlib.Core.Bool.{Bool, true, false, not, _&&_, true≢false, false≢true}
+use mathlib.Core.Path.{_≡_, sym, ap, ap₂, _∙_}
+use mathlib.Core.Bool.{Bool, true, false, not, _&&_, false≢true}
 use mathlib.Core.List.{List}
 use Prim.Native.Nat.{ℕ, _+_, _*_, _<_}
 use native.Mathlib.Omega.{arith}
-use borrow.Author.Tests.{le-leb, lt-leb, ltb-true, ltb-false}
+use borrow.Author.Tests.{le-leb, lt-leb}
 use lib.Arith.{digits-lt, digits-div}
-use lib.Dec.{eqb, leb, ltb}
-use lib.ListN.{length, set, replicate, length-set, length-replicate}
-use lib.Seq.{getD-set-same, getD-set-other}
-use Rattle.base.specs.Tests.{firstFrom}
+use lib.Dec.{eqb, leb}
+use lib.ListN.{replicate, length-replicate}
 use Rattle.base.specs.Laws.Tests.{passed, refused}
-use Rattle.base.specs.Laws.First.{first-passes, first-least, first-none}
+use Rattle.base.specs.Laws.First.{first-at, first-none}
 use Rattle.base.specs.Laws.Cases.{no-true}
 use Rattle.field.specs.declared.Gf128.{Gf128}
 use Rattle.field.specs.Gf.{ofWords, low, one, same, isBit, ofBit}
@@ -31,7 +29,7 @@ use Rattle.step.specs.Derived.{derived, derivedIn}
 use Rattle.step.specs.Filling.{filled}
 use Rattle.step.specs.Fill.{faulty, firstFaulty, fillAsked, called}
 use Rattle.step.specs.Laws.Chosen.{batchOf, batch-length, is-bit}
-use Rattle.step.specs.Laws.Clauses.{replaced, replaced-length, replaced-other}
+use Rattle.step.specs.Laws.Clauses.{replaced, replaced-length, replaced-here, replaced-other}
 
 -- a call that is refused leaves the batch
 abbrev pub RefusedWith : ℕ → ℕ → ℕ → List ℕ → Type 0
@@ -43,24 +41,6 @@ pub record Refuses (cpi : ℕ) : Type 0 where
       → RefusedWith 11 (c * cpi + d) cpi (replaced (batchOf cpi b) (c * cpi + d) l h)
   -- the one column is 0: 12
   pub no-one : RefusedWith 12 0 cpi (replicate (batchWords cpi) 0)
-
--- the first number that passes a test, where it is known
-first-at : (test : ℕ → Bool) (n x : ℕ) → x < n → test x ≡ true → ((k : ℕ) → k < x → test k ≡ false) → firstFrom test 0 n ≡ x
-first-at test n x l t none = go (ltb f x) (ltb x f) refl refl
-  where
-    f : ℕ
-    f = firstFrom test 0 n
-
-    go : (i j : Bool) → ltb f x ≡ i → ltb x f ≡ j → f ≡ x
-    go true j p q = let m = ltb-true f x p in absurd (true≢false (sym (first-passes test n 0 (omega arith)) ∙ none f m))
-    go false true p q = absurd (true≢false (sym t ∙ first-least test n 0 x (omega arith) (ltb-true x f q)))
-    go false false p q = let m = ltb-false f x p in let k = ltb-false x f q in omega arith
-
-replaced-here : (w : List ℕ) (x l h : ℕ) → 2 * x + 1 < length w → elementAt (replaced w x l h) x ≡ ofWords l h
-replaced-here w x l h m =
-    ap₂ ofWords
-    (getD-set-other (set w (2 * x) l) (2 * x + 1) (2 * x) h 0 (omega arith) ∙ getD-set-same w (2 * x) l 0 (omega arith))
-    (getD-set-same (set w (2 * x) l) (2 * x + 1) h 0 (omega (arith, length-set w (2 * x) l)))
 
 module _ (cpi : ℕ) (size : allowed cpi ≡ true) where
   some : 0 < cpi

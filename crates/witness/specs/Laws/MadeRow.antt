@@ -6,23 +6,21 @@ use mathlib.Core.Bool.{true, false, not}
 use mathlib.Core.List.{List}
 use Prim.Native.Nat.{ℕ, _+_, _*_, _/_, _%_, _≤_, _<_}
 use native.Mathlib.Omega.{arith}
-use borrow.Author.Tests.{eq-eqb, ne-eqb, le-ltb}
-use lib.Dec.{eqb, ltb}
+use borrow.Author.Tests.{eq-eqb, ne-eqb}
+use lib.Dec.{eqb}
 use lib.ListN.{length}
 use Rattle.base.specs.Bits.{digit}
-use Rattle.base.specs.Tests.{firstFrom}
 use Rattle.base.specs.Laws.Tests.{passed, refused}
 use Rattle.base.specs.Laws.From.{length-from}
-use Rattle.base.specs.Laws.First.{first-none}
 use Rattle.field.specs.declared.Gf128.{Gf128}
 use Rattle.field.specs.Gf.{ofWords, isBit, ofBit}
 use Rattle.field.specs.Gf.Tests.{isBit-bit}
 use Rattle.field.specs.Gf.Bits.{bit-words}
 use Rattle.layout.specs.Batch.{allowed, ROW-WORDS}
-use Rattle.layout.specs.Laws.Questions.{if-yes, yes-batch}
-use Rattle.verdict.specs.declared.bits.BitAnswer.the-variants.{AllBits, Refused}
+use Rattle.verdict.specs.declared.bits.BitAnswer.the-variants.{AllBits}
 use Rattle.verdict.specs.Row.{elementAt}
 use Rattle.verdict.specs.Bits.{aboveOne, bitTested}
+use Rattle.verdict.specs.Laws.BitTest.{all-bits-said}
 use Rattle.witness.specs.declared.records.CycleRecord.{CycleRecord}
 use Rattle.witness.specs.declared.records.RomRow.{RomRow}
 use Rattle.witness.specs.Row.{rowBit, bitWord, rowWord, madeRow}
@@ -71,9 +69,5 @@ module _ (r : CycleRecord) (m : RomRow) (public : List ℕ) where
   not-above c l = ap (λ (x : Gf128). not (isBit x)) (bit-at c l) ∙ ap not (isBit-bit (rowBit r m c))
 
   pub all-bits : bitTested 1 row ≡ AllBits
-  unfolding bitTested allowed
-  all-bits =
-      let none : firstFrom (aboveOne row) 0 2048 ≡ 2048 = first-none (aboveOne row) 2048 0 (λ k _ l. not-above k l) in
-      sym
-      (refused _ _ _ (ap (λ (n : ℕ). ltb n 2048) none ∙ le-ltb 2048 2048 (omega arith))
-      ∙ if-yes Refused _ (yes-batch 1 (length row) refl row-length))
+  unfolding allowed
+  all-bits = all-bits-said 1 row refl row-length not-above
