@@ -14,7 +14,7 @@ pub mod words;
 ghost use mathlib.Core.Path.{_≡_};
 ghost use Prim.Native.Nat.{_<_, _^_};
 ghost use Rattle.field.specs.Gf.{ofWords, added, product, shifted, power};
-ghost use Rattle.layout.specs.Batch.{geometryOf, mapped, unmapped};
+ghost use Rattle.layout.specs.Batch.{exponentOf, geometryOf, mapped, unmapped};
 ghost use Rattle.circuit.specs.Circuit.{circuitWords};
 ghost use Rattle.circuit.specs.Batched.{batched, unmappedRow};
 ghost use lib.ListN.{getD};
@@ -101,6 +101,13 @@ pub extern "C" fn compare_geometry(cpi: usize, part: u32) -> u64
         GeometryAnswer::Of(g) => geometry_part(g, part),
         GeometryAnswer::Refused(r) => refused_at(r),
     }
+}
+
+#[no_mangle]
+pub extern "C" fn compare_exponent(cpi: usize) -> u32
+    ensures { λ r. ⌜ r ≡ exponentOf cpi ⌝ }
+{
+    layout::exponent(cpi)
 }
 
 fn column_number(answer: ColumnAnswer) -> u64

@@ -9,7 +9,7 @@ use crate::timing::{in_turn, Work};
 use crate::CHECKS;
 
 /// The derived columns, by document 01.
-const DERIVED: [RangeInclusive<usize>; 6] = [
+pub const DERIVED: [RangeInclusive<usize>; 6] = [
     448..=511,
     576..=767,
     773..=773,

@@ -18,6 +18,7 @@ mod reads;
 mod stack;
 mod table;
 mod timing;
+mod way_back;
 
 use std::process::ExitCode;
 
@@ -41,6 +42,7 @@ fn main() -> ExitCode {
     failing::print();
     stack::print();
     filler::print();
+    way_back::print();
     ExitCode::SUCCESS
 }
 

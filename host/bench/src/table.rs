@@ -33,7 +33,7 @@ fn micro(seconds: f64) -> String {
     format!("{:.2}", seconds * 1e6)
 }
 
-fn nano(seconds: f64) -> String {
+pub fn nano(seconds: f64) -> String {
     format!("{:.2}", seconds * 1e9)
 }
 

@@ -13,6 +13,9 @@ pub const CYCLES: u64 = 511;
 const W_COLS: usize = 2048;
 const M: usize = 4096;
 
+/// Batch columns past one_col that are asked for, and that are put above 1.
+pub const PAST: usize = 512;
+
 pub fn tests() -> Vec<Test> {
     let cells = CYCLES * W_COLS as u64;
     vec![
@@ -35,9 +38,18 @@ pub fn tests() -> Vec<Test> {
             REFUSED_SIZES * 11,
             sizes_refused,
         ),
+        test(
+            "exponents, of sizes and of what is none",
+            9 + REFUSED_SIZES,
+            exponents,
+        ),
         test("columns refused", 9 * 6 * 8, columns_refused),
         test("cycles refused", 9 * 4 * 11, cycles_refused),
-        test("way back refused", 9 * 6 * 2, way_back_refused),
+        test(
+            "way back refused, the first past one_col",
+            9 * (PAST as u64 + 4) * 2,
+            way_back_refused,
+        ),
     ]
 }
 
@@ -144,6 +156,15 @@ fn sizes_refused(tally: &mut Tally) {
     }
 }
 
+fn exponents(tally: &mut Tally) {
+    for (k, cpi) in (0..).zip(SIZES) {
+        tally.same(|| format!("exponent of {cpi}"), product::exponent(cpi), k);
+    }
+    for cpi in refused_sizes() {
+        tally.same(|| format!("exponent of {cpi}"), product::exponent(cpi), 9);
+    }
+}
+
 /// The column is asked before the cycle.
 fn columns_refused(tally: &mut Tally) {
     for cpi in SIZES {
@@ -179,7 +200,8 @@ fn cycles_refused(tally: &mut Tally) {
 fn way_back_refused(tally: &mut Tally) {
     for cpi in SIZES {
         let end = W_COLS * cpi;
-        for batch_column in [end, end + 1, 2 * end - 1, 2 * end, 1 << 32, usize::MAX] {
+        let far = [2 * end - 1, 2 * end, 1 << 32, usize::MAX];
+        for batch_column in (end..end + PAST).chain(far) {
             for part in [0, 1] {
                 let place = || format!("way back from batch column {batch_column} of {cpi} cycles");
                 tally.same(

@@ -39,6 +39,7 @@ mod c {
         pub fn compare_geometry(cpi: usize, part: u32) -> u64;
         pub fn compare_map_col(cpi: usize, column: usize, cycle: usize) -> u64;
         pub fn compare_map_z_col(cpi: usize, column: usize, cycle: usize) -> u64;
+        pub fn compare_exponent(cpi: usize) -> u32;
         pub fn compare_way_back(cpi: usize, batch_column: usize, part: u32) -> u64;
         pub fn compare_row_way_back(cpi: usize, relation: u32, batch_row: usize, part: u32) -> u64;
         pub fn compare_listing_word(i: usize) -> u32;
@@ -213,6 +214,7 @@ pub fn geometry(cpi: usize, part: u32) -> Answer {
     answer(unsafe { c::compare_geometry(cpi, part) })
 }
 
+#[inline]
 pub fn map_col(cpi: usize, column: usize, cycle: usize) -> Answer {
     answer(unsafe { c::compare_map_col(cpi, column, cycle) })
 }
@@ -221,7 +223,13 @@ pub fn map_z_col(cpi: usize, column: usize, cycle: usize) -> Answer {
     answer(unsafe { c::compare_map_z_col(cpi, column, cycle) })
 }
 
+/// The exponent of a batch size, 9 for a number that is none.
+pub fn exponent(cpi: usize) -> u32 {
+    unsafe { c::compare_exponent(cpi) }
+}
+
 /// Part 0 is the column that a batch column came from, any other the cycle.
+#[inline]
 pub fn way_back(cpi: usize, batch_column: usize, part: u32) -> Answer {
     answer(unsafe { c::compare_way_back(cpi, batch_column, part) })
 }
@@ -549,6 +557,7 @@ pub fn read_branch(opcode: u32, funct3: u32, rs1: u64, rs2: u64) -> u64 {
     unsafe { c::compare_read_branch(opcode, funct3, rs1, rs2) }
 }
 
+#[inline]
 fn answer(raw: u64) -> Answer {
     if raw >> 63 == 0 {
         return Ok(raw);

@@ -4,7 +4,7 @@ use super::conditions::Cycle;
 use super::cycles::Wanted;
 use super::derived::{derived, given, is_derived, DERIVED};
 use super::filled::{batch_of, fill, one_col, output};
-use crate::columns::SIZES;
+use crate::columns::{refused_sizes, REFUSED_SIZES, SIZES};
 use crate::numbers::Numbers;
 use crate::parallel::in_parts;
 use crate::report::{test, Tally, Test};
@@ -20,31 +20,18 @@ const OF_A_REFUSAL: u64 = 4;
 /// Smallest above 1, high word alone, both words, all ones.
 const ABOVE_ONE: [u128; 6] = [2, 3, 1 << 64, (1 << 64) + 1, 1 << 127, u128::MAX];
 
-const WRONG_SIZES: [usize; 13] = [
-    0,
-    3,
-    5,
-    6,
-    7,
-    12,
-    257,
-    511,
-    512,
-    1024,
-    1 << 32,
-    1 << 63,
-    usize::MAX,
-];
-
 const NOT_ONE: [u128; 7] = [0, 2, 3, 1 << 64, (1 << 64) + 1, 1 << 127, u128::MAX];
 
 const SEVERAL: usize = 24;
+
+/// Parts that share a batch's given columns.
+const PARTS: usize = 8;
 
 pub fn tests() -> Vec<Test> {
     vec![
         test(
             "filling and conditions, sizes and lengths refused",
-            (13 + 9 * 6) * OF_A_REFUSAL,
+            (REFUSED_SIZES + 9 * 6) * OF_A_REFUSAL,
             sizes_and_lengths,
         ),
         test(
@@ -61,6 +48,11 @@ pub fn tests() -> Vec<Test> {
             "filling and conditions, several columns above 1, one column or not",
             (9 * SEVERAL) as u64 * OF_A_REFUSAL,
             several_columns,
+        ),
+        test(
+            "filling, each given column above 1 in three cycles of every size, and every derived one",
+            (9 * (3 * GIVEN + 2 * PARTS)) as u64,
+            each_size,
         ),
         test(
             "filling and conditions, the one column is not 1",
@@ -96,7 +88,7 @@ fn refused(
 }
 
 fn sizes_and_lengths(tally: &mut Tally) {
-    for cpi in WRONG_SIZES {
+    for cpi in refused_sizes() {
         let place = || format!("size {cpi}");
         let mut batch = Lent::of(&[2; 64]);
         refused(tally, cpi, &mut batch, refusal(SIZE), &place);
@@ -170,6 +162,35 @@ fn several_columns(tally: &mut Tally) {
         batch.put(one_col(cpi), numbers.below(3).into());
         let place = || format!("batch {part}, {cpi} cycles");
         refused(tally, cpi, &mut batch.words, above_one(smallest), &place);
+    });
+}
+
+/// The given columns one by one in the first cycle, in any and in the last, while every derived column
+/// of every cycle is above 1. The one column is 0, which is asked for later.
+fn each_size(tally: &mut Tally) {
+    in_parts(tally, 9 * PARTS, |tally, part| {
+        let (cpi, first) = (SIZES[part % 9], part / 9);
+        let mut numbers = Numbers::for_part(67, part as u64);
+        let (mut batch, ..) = batch(&mut numbers, cpi);
+        for at in derived().flat_map(|column| column * cpi..(column + 1) * cpi) {
+            batch.put(at, ABOVE_ONE[numbers.below(6) as usize]);
+        }
+        batch.put(one_col(cpi), 0);
+        for column in given().skip(first).step_by(PARTS) {
+            for cycle in [0, numbers.below(cpi as u64) as usize, cpi - 1] {
+                let at = column * cpi + cycle;
+                let bit = batch.z[at].0;
+                batch.put(at, ABOVE_ONE[numbers.below(6) as usize]);
+                let place = || format!("column {column} of cycle {cycle} of {cpi}");
+                let seen = product::fill(cpi, batch.words.words_mut());
+                tally.same(place, seen, above_one(at).answer());
+                batch.put(at, bit);
+            }
+        }
+        let place = || format!("part {part}, {cpi} cycles, no given column above 1");
+        let seen = product::fill(cpi, batch.words.words_mut());
+        tally.same(place, seen, refusal(ONE).answer());
+        tally.same(place, batch.words.is_right(), true);
     });
 }
 

@@ -3,13 +3,16 @@
 use super::answer::{above_one, refusal, BATCH_LENGTH, SIZE};
 use super::batches::{self, Batch, COLUMNS, WITNESS_COLUMNS};
 use super::lent::Lent;
-use crate::columns::SIZES;
+use crate::columns::{refused_sizes, PAST, REFUSED_SIZES, SIZES};
 use crate::numbers::Numbers;
 use crate::original::Gf128;
 use crate::parallel::in_parts;
 use crate::report::{test, Tally, Test};
 
 const BATCHES: usize = 2048;
+
+/// Parts that share a batch's columns.
+const PARTS: usize = 64;
 
 /// Comparisons of one call: the answer and the batch.
 const OF_A_CALL: u64 = 2;
@@ -31,9 +34,16 @@ pub fn tests() -> Vec<Test> {
             move |tally| random_batches(tally, cpi),
         ));
     }
+    for cpi in SIZES {
+        tests.push(test(
+            format!("bit test, each batch column of {cpi} above 1, and the first past one_col"),
+            (WITNESS_COLUMNS * cpi + PAST + PARTS) as u64,
+            move |tally| each_batch_column(tally, cpi),
+        ));
+    }
     tests.push(test(
         "bit test, sizes and lengths refused",
-        (13 + 9 * 6) * OF_A_CALL,
+        (REFUSED_SIZES + 9 * 6) * OF_A_CALL,
         refused,
     ));
     tests
@@ -78,6 +88,25 @@ fn each_column(tally: &mut Tally) {
     });
 }
 
+/// Of all columns one is above 1. Past one_col none is looked at.
+fn each_batch_column(tally: &mut Tally, cpi: usize) {
+    let z = batches::bits(&mut Numbers::for_test(66), cpi);
+    let one_col = WITNESS_COLUMNS * cpi;
+    in_parts(tally, PARTS, |tally, part| {
+        let mut batch = Batch::of(cpi, z.clone());
+        for at in (part..one_col + PAST).step_by(PARTS) {
+            let bit = batch.z[at].0;
+            batch.put(at, ABOVE_ONE[at / PARTS % ABOVE_ONE.len()]);
+            let right = if at < one_col { above_one(cpi, at) } else { 0 };
+            let place = || format!("batch column {at} of {cpi} cycles");
+            tally.same(place, product::bit_test(cpi, batch.words.words()), right);
+            batch.put(at, bit);
+        }
+        let unchanged = || format!("part {part}, batch unchanged");
+        tally.same(unchanged, batch.words.is_right(), true);
+    });
+}
+
 /// All bits; then some columns of any sort; then public ones only.
 fn random_batches(tally: &mut Tally, cpi: usize) {
     in_parts(tally, BATCHES / cpi, |tally, part| {
@@ -102,21 +131,7 @@ fn random_batches(tally: &mut Tally, cpi: usize) {
 }
 
 fn refused(tally: &mut Tally) {
-    for cpi in [
-        0,
-        3,
-        5,
-        6,
-        7,
-        12,
-        257,
-        511,
-        512,
-        1024,
-        1 << 32,
-        1 << 63,
-        usize::MAX,
-    ] {
+    for cpi in refused_sizes() {
         let mut batch = Lent::of(&[2; 64]);
         let place = || format!("size {cpi}");
         answers(tally, cpi, &mut batch, refusal(SIZE).answer(), &place);
