@@ -1,7 +1,7 @@
 -- Laws, which the prover checks; nobody has to believe them.
 --     Agree             the check over the house listing answers as the check does that is lent that listing
 --     Apply             the row that the search finds is a row of the listing, and its terms are in order
---     BitTest           the bit test says all bits, or names the first column above 1 by its column and cycle
+--     BitTest           the bit test refuses, says all bits, or names the first column above 1 by its column and cycle
 --     ColumnAlone       one column alone: where the others are 0, what rows say is told by a test that computes
 --     LaterCycles       failing verdicts of every cycle of every size, with their numbers written out
 --     Named             a row's outcome depends on the columns that its terms of nonzero coefficient name, and on nothing else

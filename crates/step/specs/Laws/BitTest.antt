@@ -42,25 +42,21 @@ tells cpi size =
       bits = λ b.
           all-bits-said cpi (batchOf cpi b) size (batch-length cpi some b)
           (λ k l. let t = is-bit cpi some b k in ap not (ap isBit (t .1) ∙ isBit-bit (t .0)));
-      no-bit = named;
+      no-bit = λ b c d l h hc hd above.
+          let at : columnAt cpi c d ≡ c * cpi + d = witness-column cpi c d hc in
+          let w : List ℕ = replaced (batchOf cpi b) (c * cpi + d) l h in
+          let inside : c * cpi + d < 2048 * cpi = digits-lt hc hd in
+          not-bit-named cpi w size (replaced-length (batchOf cpi b) (c * cpi + d) l h ∙ batch-length cpi some b) c d hc hd
+          (ap (aboveOne w) at
+          ∙ ap not (ap isBit (replaced-here (batchOf cpi b) (c * cpi + d) l h (omega (arith, inside, batch-length cpi some b))) ∙ above))
+          (λ k m.
+          let t = is-bit cpi some b k in
+          ap not (ap isBit (replaced-other (batchOf cpi b) (c * cpi + d) l h k (λ q. omega (arith, at)) ∙ t .1) ∙ isBit-bit (t .0)))
+          ∙ ap (λ (n : ℕ). NotBit n c d) at;
     }
   where
     some : 0 < cpi
     some = allowed-range cpi size .0
-
-    named : (b : ℕ → ℕ → Bool) (c d l h : ℕ) → c < 2048 → d < cpi → isBit (ofWords l h) ≡ false
-        → bitTested cpi (replaced (batchOf cpi b) (c * cpi + d) l h) ≡ NotBit (c * cpi + d) c d
-    named b c d l h hc hd above =
-        let at : columnAt cpi c d ≡ c * cpi + d = witness-column cpi c d hc in
-        let w : List ℕ = replaced (batchOf cpi b) (c * cpi + d) l h in
-        let inside : c * cpi + d < 2048 * cpi = digits-lt hc hd in
-        not-bit-named cpi w size (replaced-length (batchOf cpi b) (c * cpi + d) l h ∙ batch-length cpi some b) c d hc hd
-        (ap (aboveOne w) at
-        ∙ ap not (ap isBit (replaced-here (batchOf cpi b) (c * cpi + d) l h (omega (arith, inside, batch-length cpi some b))) ∙ above))
-        (λ k m.
-        let t = is-bit cpi some b k in
-        ap not (ap isBit (replaced-other (batchOf cpi b) (c * cpi + d) l h k (λ q. omega (arith, at)) ∙ t .1) ∙ isBit-bit (t .0)))
-        ∙ ap (λ (n : ℕ). NotBit n c d) at
 
 -- by numbers: of four cycles, 2 in column 5 of cycle 2 and 0 in every other column below one_col
 pub given-test : bitTested 4 (replaced (batchOf 4 (λ d c. false)) 22 2 0) ≡ NotBit 22 5 2

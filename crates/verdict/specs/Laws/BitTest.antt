@@ -1,8 +1,9 @@
--- What the bit test says: all bits where no column below one_col is above 1, and otherwise the first that is, with its column and cycle.
+-- What the bit test says: the refusal of questions 1 and 2; all bits where no column below one_col is above 1; and otherwise the first
+-- that is, with its column and cycle.
 -- Assumes nothing.
-use mathlib.Core.Path.{_≡_, sym, ap, _∙_}
+use mathlib.Core.Path.{_≡_, refl, sym, ap, _∙_}
 use mathlib.Core.Bool.{true, false}
-use mathlib.Core.List.{List}
+use mathlib.Core.List.{List, []}
 use Prim.Native.Nat.{ℕ, _*_, _<_}
 use native.Mathlib.Nat.{zero-add}
 use native.Mathlib.Omega.{arith}
@@ -12,11 +13,23 @@ use lib.ListN.{length}
 use Rattle.base.specs.Tests.{firstFrom}
 use Rattle.base.specs.Laws.Tests.{passed, refused}
 use Rattle.base.specs.Laws.First.{first-at, first-none}
-use Rattle.layout.specs.Batch.{allowed, batchWords, columnAt, unmapped}
+use Rattle.layout.specs.declared.Refusal.{Refusal}
+use Rattle.layout.specs.declared.Asked.the-variants.{No}
+use Rattle.layout.specs.Batch.{allowed, batchWords, batchAsked, columnAt, unmapped}
+use Rattle.layout.specs.Questions.{no}
 use Rattle.layout.specs.Laws.Mapping.{column-below, back-of-mapped}
-use Rattle.layout.specs.Laws.Questions.{if-yes, yes-batch}
+use Rattle.layout.specs.Laws.Questions.{if-yes, if-no, yes-batch}
 use Rattle.verdict.specs.declared.bits.BitAnswer.the-variants.{AllBits, NotBit, Refused}
 use Rattle.verdict.specs.Bits.{aboveOne, placed, bitTested}
+
+pub refusal-told : (cpi : ℕ) (batch : List ℕ) (r : Refusal) → batchAsked cpi (length batch) ≡ No r → bitTested cpi batch ≡ Refused r
+unfolding bitTested
+refusal-told cpi batch r e = sym (if-no Refused _ e)
+
+-- by numbers: three cycles are no size, and four have more words than none
+pub given-refusals : (bitTested 3 [] ≡ Refused (no 1 0)) × (bitTested 4 [] ≡ Refused (no 2 0))
+unfolding bitTested batchAsked allowed
+given-refusals = (refl, refl)
 
 module _ (cpi : ℕ) (batch : List ℕ) (size : allowed cpi ≡ true) (words : length batch ≡ batchWords cpi) where
   pub all-bits-said : ((k : ℕ) → k < 2048 * cpi → aboveOne batch k ≡ false) → bitTested cpi batch ≡ AllBits
