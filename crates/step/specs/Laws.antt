@@ -4,10 +4,10 @@
 --     Batch             a batch's fillings, cycle by cycle
 --     BinRows           the bin rows over bits, as far as they are not solved as they stand
 --     BitTest           the bit test of given batches of every size: a column that is no bit is named, whatever bits stand elsewhere
---     BranchRow         a cycle that is a branch and nothing else: what its words read, and that it meets the conditions
---     Branches          the taken clause met by every branch: each size, each funct3, any two words
+--     Branches          the taken clause met by every cycle that compares: each size, opcode and funct3, any two words
 --     Chosen            a batch of any size from any choice of bits meets demand 3's premises
 --     Clauses           the clauses of demand 3 at work, of every size and in every cycle
+--     ComparingRow      a cycle that compares and does nothing else: what its words read, and that it meets the conditions
 --     Conditions        where the determining rows hold, the others hold exactly when the ten conditions do
 --     Count             counting fillings: `all-fillings`
 --     Cycle             one cycle over bits: its rows over the field are the determining rows, and the others
@@ -36,10 +36,10 @@ pub mod Answers
 pub mod Batch
 pub mod BinRows
 pub mod BitTest
-pub mod BranchRow
 pub mod Branches
 pub mod Chosen
 pub mod Clauses
+pub mod ComparingRow
 pub mod Conditions
 pub mod Count
 pub mod Cycle

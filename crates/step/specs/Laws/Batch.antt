@@ -13,6 +13,7 @@ use lib.Arith.{digits-div, digits-mod}
 use lib.Dec.{eqb}
 use Rattle.base.specs.Lists.{joined, All}
 use Rattle.base.specs.Laws.Lists.{all-joined}
+use Rattle.base.specs.Laws.Cases.{no-true}
 use Rattle.field.specs.declared.Gf128.{Gf128}
 use Rattle.field.specs.Gf.{low, Proper, odd, ofBit}
 use Rattle.field.specs.Gf.Tests.{isBit-true}
@@ -160,6 +161,17 @@ module _ (cpi : ℕ) (some : 0 < cpi) (w : List ℕ) (p : Premises cpi w) where
       go : (c : ℕ) (k : Bool) → derived c ≡ k → bitsOf cpi (filling cpi v w) d c ≡ filledBits (bitsOf cpi w d) c
       go c true e = bit-at v c d h e ∙ ap₂ (λ (i j : ℕ). filledBits (bitsOf cpi w i) j) (digits-mod c h) (digits-div c h)
       go c false e = same-given v d h c e ∙ sym (filled-keeps (bitsOf cpi w d) (one-bit d) c e)
+
+  -- up to the one column it holds bits, so that what is not 1 is 0
+  pub filled-bit : (d : ℕ) → d < cpi → (c : ℕ) → c ≤ ONE-COL → cycleOf cpi (filled cpi w) d c ≡ ofBit (bitsOf cpi (filled cpi w) d c)
+  unfolding filled
+  filled-bit = filling-bits v
+
+  pub filled-zero : (d : ℕ) → d < cpi → (c : ℕ) → c ≤ ONE-COL → (cycleOf cpi (filled cpi w) d c ≡ gf.one → ⊥)
+      → cycleOf cpi (filled cpi w) d c ≡ gf.zero
+  filled-zero d h c l none =
+      let bit = filled-bit d h c l in
+      bit ∙ ap (λ (b : Bool). ofBit b) (no-true (bitsOf cpi (filled cpi w) d c) (λ e. none (bit ∙ ap (λ (b : Bool). ofBit b) e)))
 
   pub filled-meets : (d : ℕ) → d < cpi → All (Holds (bitsOf cpi (filled cpi w) d)) determining
   filled-meets d h = subst (λ (b : ℕ → Bool). All (Holds b) determining) (sym (filled-cycle d h))

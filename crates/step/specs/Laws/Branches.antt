@@ -1,17 +1,19 @@
--- The taken clause of demand 3 is met by every branch: for each batch size, each funct3 and any two words, the batch whose cycles are
--- that branch of those words is accepted once it is filled, compares in every cycle, and has taken 1 exactly when the ISA's condition
--- holds.
+-- The taken clause of demand 3 is met by every instruction that compares: for each batch size, each opcode but that of system calls, each
+-- funct3 and any two words, the batch whose cycles compare those words is accepted once it is filled, compares in every cycle, and has
+-- taken 1 exactly when the opcode is 0x63 and the ISA's condition holds.
 -- Assumes nothing.
 use mathlib.Core.Path.{_≡_, refl, sym, ap, ap₂, subst, _∙_}
 use mathlib.Core.Logic.{_↔_}
-use mathlib.Core.Bool.{Bool, true, false, not, false≢true}
+use mathlib.Core.Bool.{Bool, true, false, not, _&&_, false≢true}
 use mathlib.Core.List.{List}
 use Prim.Native.Nat.{ℕ, _+_, _-_, _^_, _<_}
 use native.Mathlib.Omega.{arith}
+use borrow.Author.Tests.{eqb-true, eq-eqb}
+use lib.Dec.{eqb}
 use lib.ListN.{length, replicate}
 use Rattle.base.specs.Bits.{word, signed}
 use Rattle.base.specs.Laws.Values.{val-same, same-bits, complement}
-use Rattle.base.specs.Laws.Cases.{no-true}
+use Rattle.base.specs.Laws.Tests.{both}
 use Rattle.field.specs.Gf.{zero, one, ofBit}
 use Rattle.layout.specs.Columns.{ONE-COL, RS1, RS2, T1, T2, SUB, IS-ARITH, TAKEN, FETCH-OP, FETCH-FUNCT3}
 use Rattle.layout.specs.Batch.{allowed, scratchFits, SCRATCH-WORDS}
@@ -23,13 +25,13 @@ use Rattle.verdict.specs.Check.{checked}
 use Rattle.step.specs.Step.{Step, opcode, funct3}
 use Rattle.step.specs.Branch.{branchHolds}
 use Rattle.step.specs.Derived.{derived}
-use Rattle.step.specs.Filling.{fillerBits, filled}
+use Rattle.step.specs.Filling.{filled}
 use Rattle.step.specs.Demand3.{Premises, accepts, Compares}
 use Rattle.step.specs.Laws.Given.{SameGiven, same-word}
-use Rattle.step.specs.Laws.Batch.{of-bits}
+use Rattle.step.specs.Laws.Batch.{filled-zero}
 use Rattle.step.specs.Laws.Proved.{demand3}
 use Rattle.step.specs.Laws.Chosen.{batchOf, withOne, all-bits-of, premises-of, filled-given}
-use Rattle.step.specs.Laws.BranchRow.{branchBits, rs1-is, rs2-is, t1-is, t2-is, opcode-is, funct3-is, subtract-is, arithmetic-is, branch-steps}
+use Rattle.step.specs.Laws.ComparingRow.{comparingBits, rs1-is, rs2-is, t1-is, t2-is, opcode-is, funct3-is, subtract-is, arithmetic-is, comparing-steps}
 
 -- what `Compares` asks for, in numbers, and nothing more: T1 is RS1, T2 the complement of RS2, subtract and arithmetic are set
 pub compares-exactly : (b : ℕ → Bool)
@@ -46,123 +48,122 @@ compares-exactly b =
       },
     )
 
--- every cycle is a branch of RS1 = x and RS2 = y with funct3 f
-abbrev pub branchBatch : ℕ → ℕ → ℕ → ℕ → List ℕ
-branchBatch cpi f x y = batchOf cpi (λ d. branchBits f x y)
+-- every cycle compares RS1 = x with RS2 = y, with opcode o and funct3 f
+abbrev pub comparingBatch : ℕ → ℕ → ℕ → ℕ → ℕ → List ℕ
+comparingBatch cpi o f x y = batchOf cpi (λ d. comparingBits o f x y)
 
 -- ---- the statement
 
--- the branch that a cycle holds
-pub record Branches (b : ℕ → Bool) (f x y : ℕ) : Type 0 where
-  pub opcode-reads : opcode b ≡ 0x63
+-- the instruction that a cycle holds
+pub record Instruction (b : ℕ → Bool) (o f x y : ℕ) : Type 0 where
+  pub opcode-reads : opcode b ≡ o
   pub funct3-reads : funct3 b ≡ f
   pub rs1-reads : word b RS1 64 ≡ x
   pub rs2-reads : word b RS2 64 ≡ y
 
-pub record Decided (cpi f x y : ℕ) (scratch : List ℕ) : Type 0 where
-  pub premises : Premises cpi (branchBatch cpi f x y)
-  pub accepted : accepts (checked cpi circuitWords (filled cpi (branchBatch cpi f x y)) scratch .answer) ≡ true
+pub record Decided (cpi o f x y : ℕ) (scratch : List ℕ) : Type 0 where
+  pub premises : Premises cpi (comparingBatch cpi o f x y)
+  pub accepted : accepts (checked cpi circuitWords (filled cpi (comparingBatch cpi o f x y)) scratch .answer) ≡ true
   -- in every cycle of the filled batch
-  pub compares : (d : ℕ) → d < cpi → Compares (bitsOf cpi (filled cpi (branchBatch cpi f x y)) d)
-  pub branches : (d : ℕ) → d < cpi → Branches (bitsOf cpi (filled cpi (branchBatch cpi f x y)) d) f x y
-  pub taken : (d : ℕ) → d < cpi → (cycleOf cpi (filled cpi (branchBatch cpi f x y)) d TAKEN ≡ one) ↔ (branchHolds f x y ≡ true)
+  pub compares : (d : ℕ) → d < cpi → Compares (bitsOf cpi (filled cpi (comparingBatch cpi o f x y)) d)
+  pub instruction : (d : ℕ) → d < cpi → Instruction (bitsOf cpi (filled cpi (comparingBatch cpi o f x y)) d) o f x y
+  pub taken : (d : ℕ) → d < cpi → (cycleOf cpi (filled cpi (comparingBatch cpi o f x y)) d TAKEN ≡ one)
+      ↔ ((o ≡ 0x63) × (branchHolds f x y ≡ true))
 
 -- ---- its proof
 
-module _ (cpi : ℕ) (size : allowed cpi ≡ true) (f x y : ℕ) (lf : f < 8) (lx : x < 2 ^ 64) (ly : y < 2 ^ 64) where
+module _ (cpi : ℕ) (size : allowed cpi ≡ true) (o f x y : ℕ) (lo : o < 2 ^ 7) (other : o ≡ 0x73 → ⊥)
+    (lf : f < 8) (lx : x < 2 ^ 64) (ly : y < 2 ^ 64) where
   some : 0 < cpi
   some = allowed-range cpi size .0
 
   abbrev batch : List ℕ
-  batch = branchBatch cpi f x y
+  batch = comparingBatch cpi o f x y
 
   abbrev z : ℕ → Bool
-  z = withOne (branchBits f x y)
+  z = withOne (comparingBits o f x y)
 
   p : Premises cpi batch
-  p = premises-of cpi some (λ d. branchBits f x y)
+  p = premises-of cpi some (λ d. comparingBits o f x y)
 
   module _ (d : ℕ) (l : d < cpi) where
     abbrev b : ℕ → Bool
     b = bitsOf cpi (filled cpi batch) d
 
     chosen : bitsOf cpi batch d ≡ z
-    chosen = all-bits-of cpi some (λ d. branchBits f x y) d l
+    chosen = all-bits-of cpi some (λ d. comparingBits o f x y) d l
 
     given : SameGiven b z
-    given = filled-given cpi some (λ d. branchBits f x y) d l
+    given = filled-given cpi some (λ d. comparingBits o f x y) d l
 
-    holds-branch : Branches b f x y
+    holds-it : Instruction b o f x y
     unfolding derived
-    holds-branch =
+    holds-it =
         record {
-          opcode-reads = same-word b z given FETCH-OP 7 refl ∙ opcode-is f x y lf lx ly;
-          funct3-reads = same-word b z given FETCH-FUNCT3 3 refl ∙ funct3-is f x y lf lx ly;
-          rs1-reads = same-word b z given RS1 64 refl ∙ rs1-is f x y lf lx ly;
-          rs2-reads = same-word b z given RS2 64 refl ∙ rs2-is f x y lf lx ly;
+          opcode-reads = same-word b z given FETCH-OP 7 refl ∙ opcode-is o f x y lo lf lx ly;
+          funct3-reads = same-word b z given FETCH-FUNCT3 3 refl ∙ funct3-is o f x y lo lf lx ly;
+          rs1-reads = same-word b z given RS1 64 refl ∙ rs1-is o f x y lo lf lx ly;
+          rs2-reads = same-word b z given RS2 64 refl ∙ rs2-is o f x y lo lf lx ly;
         }
 
     compares-here : Compares b
     unfolding derived
     compares-here =
         compares-exactly b .1 (
-          same-word b z given T1 64 refl ∙ t1-is f x y lf lx ly ∙ sym (holds-branch .rs1-reads),
+          same-word b z given T1 64 refl ∙ t1-is o f x y lo lf lx ly ∙ sym (holds-it .rs1-reads),
           (
-            same-word b z given T2 64 refl ∙ t2-is f x y lf lx ly ∙ ap (λ (n : ℕ). 2 ^ 64 - 1 - n) (sym (holds-branch .rs2-reads)),
-            (given SUB refl ∙ subtract-is f x y lf lx ly, given IS-ARITH refl ∙ arithmetic-is f x y lf lx ly),
+            same-word b z given T2 64 refl ∙ t2-is o f x y lo lf lx ly ∙ ap (λ (n : ℕ). 2 ^ 64 - 1 - n) (sym (holds-it .rs2-reads)),
+            (given SUB refl ∙ subtract-is o f x y lo lf lx ly, given IS-ARITH refl ∙ arithmetic-is o f x y lo lf lx ly),
           ),
         )
 
     steps : Step (bitsOf cpi batch d) (cycleOf cpi batch d (ONE-COL + 1))
-    steps = subst (λ (g : ℕ → Bool). Step g (cycleOf cpi batch d (ONE-COL + 1))) (sym chosen) (branch-steps f x y lf lx ly _)
+    steps = subst (λ (g : ℕ → Bool). Step g (cycleOf cpi batch d (ONE-COL + 1))) (sym chosen) (comparing-steps o f x y lo lf lx ly other _)
 
     condition-is : branchHolds (funct3 b) (word b RS1 64) (word b RS2 64) ≡ branchHolds f x y
     condition-is =
-        let h = holds-branch in
+        let h = holds-it in
         ap₂ (λ (g v : ℕ). branchHolds g v (word b RS2 64)) (h .funct3-reads) (h .rs1-reads) ∙ ap (branchHolds f x) (h .rs2-reads)
 
-  decided : (scratch : List ℕ) → scratchFits (length scratch) ≡ true → Decided cpi f x y scratch
+  decided : (scratch : List ℕ) → scratchFits (length scratch) ≡ true → Decided cpi o f x y scratch
   decided scratch room =
       let proved = demand3 cpi size batch scratch room p in let yes = proved .accepted .1 steps in
       record {
         premises = p;
         accepted = yes;
         compares = compares-here;
-        branches = holds-branch;
+        instruction = holds-it;
         taken = λ d l. let t = proved .taken yes d l (compares-here d l) in (
-          λ e. sym (condition-is d l) ∙ t .0 e .1,
-          λ e. t .1 (holds-branch d l .opcode-reads, condition-is d l ∙ e),
+          λ e. (sym (holds-it d l .opcode-reads) ∙ t .0 e .0, sym (condition-is d l) ∙ t .0 e .1),
+          λ e. t .1 (holds-it d l .opcode-reads ∙ e .0, condition-is d l ∙ e .1),
         );
       }
 
-  -- the taken column is the condition's bit
-  pub taken-bit : (d : ℕ) → d < cpi → cycleOf cpi (filled cpi batch) d TAKEN ≡ ofBit (branchHolds f x y)
-  unfolding filled
-  taken-bit d l = go (branchHolds f x y) refl
+  -- the taken column is the bit of both tests
+  pub taken-bit : (d : ℕ) → d < cpi → cycleOf cpi (filled cpi batch) d TAKEN ≡ ofBit (eqb o 0x63 && branchHolds f x y)
+  taken-bit d l = go (eqb o 0x63 && branchHolds f x y) refl
     where
-      k : Decided cpi f x y (replicate SCRATCH-WORDS 0)
+      k : Decided cpi o f x y (replicate SCRATCH-WORDS 0)
       k = decided (replicate SCRATCH-WORDS 0) some-scratch
 
-      is-bit : cycleOf cpi (filled cpi batch) d TAKEN ≡ ofBit (b d l TAKEN)
-      is-bit = of-bits cpi some batch p (fillerBits cpi batch) d l .bits TAKEN (omega arith)
-
-      go : (h : Bool) → branchHolds f x y ≡ h → cycleOf cpi (filled cpi batch) d TAKEN ≡ ofBit h
-      go true e = k .taken d l .1 e
+      go : (h : Bool) → (eqb o 0x63 && branchHolds f x y) ≡ h → cycleOf cpi (filled cpi batch) d TAKEN ≡ ofBit h
+      go true e = let q = both (eqb o 0x63) (branchHolds f x y) e in k .taken d l .1 (eqb-true o 0x63 (q .0), q .1)
       go false e =
-          is-bit ∙ ap (λ (h : Bool). ofBit h) (no-true (b d l TAKEN)
-          (λ t. false≢true (sym e ∙ k .taken d l .0 (is-bit ∙ ap (λ (h : Bool). ofBit h) t))))
+          filled-zero cpi some batch p d l TAKEN (omega arith) (λ t.
+          let q = k .taken d l .0 t in
+          false≢true (sym e ∙ ap₂ _&&_ (eq-eqb o 0x63 (q .0)) (q .1)))
 
-pub every-branch : (cpi : ℕ) → allowed cpi ≡ true → (f x y : ℕ) → f < 8 → x < 2 ^ 64 → y < 2 ^ 64
-    → (scratch : List ℕ) → scratchFits (length scratch) ≡ true → Decided cpi f x y scratch
-every-branch = decided
+pub every-comparison : (cpi : ℕ) → allowed cpi ≡ true → (o f x y : ℕ) → o < 2 ^ 7 → (o ≡ 0x73 → ⊥) → f < 8 → x < 2 ^ 64 → y < 2 ^ 64
+    → (scratch : List ℕ) → scratchFits (length scratch) ≡ true → Decided cpi o f x y scratch
+every-comparison = decided
 
 -- ---- each funct3 by given words: one pair that is taken and one that is not, at every batch size and in every cycle
 
 abbrev pub IsTaken : ℕ → ℕ → ℕ → Type 0
-IsTaken f x y = (cpi : ℕ) → allowed cpi ≡ true → (d : ℕ) → d < cpi → cycleOf cpi (filled cpi (branchBatch cpi f x y)) d TAKEN ≡ one
+IsTaken f x y = (cpi : ℕ) → allowed cpi ≡ true → (d : ℕ) → d < cpi → cycleOf cpi (filled cpi (comparingBatch cpi 0x63 f x y)) d TAKEN ≡ one
 
 abbrev pub IsNotTaken : ℕ → ℕ → ℕ → Type 0
-IsNotTaken f x y = (cpi : ℕ) → allowed cpi ≡ true → (d : ℕ) → d < cpi → cycleOf cpi (filled cpi (branchBatch cpi f x y)) d TAKEN ≡ zero
+IsNotTaken f x y = (cpi : ℕ) → allowed cpi ≡ true → (d : ℕ) → d < cpi → cycleOf cpi (filled cpi (comparingBatch cpi 0x63 f x y)) d TAKEN ≡ zero
 
 -- 2^64 - 1 is the largest word unsigned, and -1 signed
 abbrev pub ones : ℕ
@@ -179,8 +180,9 @@ pub record EachFunct3 : Type 0 where
   pub neither : (x y : ℕ) → x < 2 ^ 64 → y < 2 ^ 64 → IsNotTaken 2 x y × IsNotTaken 3 x y
 
 by-bit : (f x y : ℕ) → f < 8 → x < 2 ^ 64 → y < 2 ^ 64 → (h : Bool) → branchHolds f x y ≡ h
-    → (cpi : ℕ) → allowed cpi ≡ true → (d : ℕ) → d < cpi → cycleOf cpi (filled cpi (branchBatch cpi f x y)) d TAKEN ≡ ofBit h
-by-bit f x y lf lx ly h e cpi size d l = taken-bit cpi size f x y lf lx ly d l ∙ ap (λ (k : Bool). ofBit k) e
+    → (cpi : ℕ) → allowed cpi ≡ true → (d : ℕ) → d < cpi → cycleOf cpi (filled cpi (comparingBatch cpi 0x63 f x y)) d TAKEN ≡ ofBit h
+by-bit f x y lf lx ly h e cpi size d l =
+    taken-bit cpi size 0x63 f x y (omega arith) (λ q. omega arith) lf lx ly d l ∙ ap (λ (k : Bool). ofBit k) e
 
 pub each-funct3 : EachFunct3
 unfolding branchHolds signed

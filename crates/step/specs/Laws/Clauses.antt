@@ -32,7 +32,7 @@ use Rattle.step.specs.Sheet.{has, number}
 use Rattle.step.specs.Laws.Derived.{derived-below}
 use Rattle.step.specs.Laws.Given.{same-word}
 use Rattle.step.specs.Laws.FillingElements.{filling-derived}
-use Rattle.step.specs.Laws.Batch.{of-bits}
+use Rattle.step.specs.Laws.Batch.{filled-zero}
 use Rattle.step.specs.Laws.Proved.{demand3}
 use Rattle.step.specs.Laws.Sheet.{no-shift-write-load}
 use Rattle.step.specs.Laws.Chosen.{batchOf, withOne, cycle-is, all-bits-of, premises-of, filled-given}
@@ -176,25 +176,11 @@ module _ (cpi : ℕ) (size : allowed cpi ≡ true) (scratch : List ℕ) (room : 
         let same = same-word (bitsOf cpi (filled cpi w) d) (withOne (b d)) (filled-given cpi some b d l) FETCH-OP 7 refl in
         (λ e. sym same ∙ h .0 e, λ e. h .1 (same ∙ e))
 
-    halt-is-bit : (d : ℕ) → d < cpi → cycleOf cpi (filled cpi w) d HALT ≡ ofBit (bitsOf cpi (filled cpi w) d HALT)
-    unfolding filled
-    halt-is-bit d l = of-bits cpi some w (premises-of cpi some b) (fillerBits cpi w) d l .bits HALT (omega arith)
-
   idle-halts-not : (d : ℕ) → d < cpi → cycleOf cpi (filled cpi (idle cpi)) d HALT ≡ zero
   unfolding val
-  idle-halts-not d l = is-bit ∙ ap (λ (k : Bool). ofBit k) {x = halt} (no-true halt not-set)
-    where
-      halt : Bool
-      halt = bitsOf cpi (filled cpi (idle cpi)) d HALT
-
-      is-bit : cycleOf cpi (filled cpi (idle cpi)) d HALT ≡ ofBit halt
-      is-bit = halt-is-bit (λ d c. false) d l
-
-      not-set : halt ≡ true → ⊥
-      not-set e =
-          let z : _≡_ {A = ℕ} 0 0x73 = halt-bit (λ d c. false) (idle-meets cpi some) d l .0
-          (is-bit ∙ ap (λ (k : Bool). ofBit k) {x = halt} e) in
-          omega arith
+  idle-halts-not d l =
+      filled-zero cpi some (idle cpi) (premises-of cpi some (λ d c. false)) d l HALT (omega arith) (λ e.
+      let z : _≡_ {A = ℕ} 0 0x73 = halt-bit (λ d c. false) (idle-meets cpi some) d l .0 e in omega arith)
 
   pub at-work : AtWork cpi scratch
   unfolding has number val

@@ -38,7 +38,7 @@ use Rattle.step.specs.Laws.Taken.{halt-is, taken-is}
 use Rattle.step.specs.Laws.Cycle.{all-bin}
 use Rattle.step.specs.Laws.Count.{count-one, count-none}
 use Rattle.step.specs.Laws.FillingElements.{filling-length}
-use Rattle.step.specs.Laws.Batch.{RowsHold, same-given, of-bits, same-bits-as-filler, is-filled, split, filled-determined, rows-or-conditions, same-filled}
+use Rattle.step.specs.Laws.Batch.{RowsHold, same-given, of-bits, same-bits-as-filler, is-filled, split, filled-bit, filled-determined, rows-or-conditions, same-filled}
 use Rattle.step.specs.Laws.Listings.{judged-accepts, checked-answer, same-further, Listed, cycle-rows, house}
 use Rattle.field.specs.Gf as gf
 
@@ -113,10 +113,10 @@ module _ (listing : List ℕ) (further : List Sides) (l : Listed listing further
 
   -- a column of the filler's batch is 1 exactly when its bit is
   is-one : (d c : ℕ) → d < cpi → c ≤ ONE-COL → (cycleOf cpi W d c ≡ gf.one) ↔ (bitsOf cpi W d c ≡ true)
-  unfolding filled bitsOf
+  unfolding bitsOf
   is-one d c k m = (
     λ e. ap (λ (x : Gf128). eqb (low x) 1) e ∙ low-bit true,
-    λ e. of-bits cpi some w p (fillerBits cpi w) d k .bits c m ∙ ap (λ (b : Bool). ofBit b) e,
+    λ e. filled-bit cpi some w p d k c m ∙ ap (λ (b : Bool). ofBit b) e,
   )
 
   abbrev bits : ℕ → ℕ → Bool

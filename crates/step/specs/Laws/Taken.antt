@@ -3,10 +3,10 @@
 -- Assumes nothing.
 use mathlib.Core.Path.{_≡_, refl, sym, ap, ap₂, _∙_}
 use mathlib.Core.Logic.{_↔_}
-use mathlib.Core.Bool.{Bool, true, false, not, _&&_, cond}
+use mathlib.Core.Bool.{Bool, true, false, not, _&&_, and-false, cond}
 use Prim.Native.Nat.{ℕ, zero, suc, _+_, _<_}
 use native.Mathlib.Omega.{arith}
-use borrow.Author.Tests.{eqb-true, eq-eqb}
+use borrow.Author.Tests.{eqb-true, eq-eqb, ne-eqb}
 use lib.Dec.{eqb, ltb}
 use Rattle.base.specs.Bits.{_⊻_, word, majority, Carries, signedLess}
 use Rattle.base.specs.Laws.Values.{val-same}
@@ -22,11 +22,21 @@ use Rattle.step.specs.Laws.Conditions.{Summed}
 pub halt-is : (b : ℕ → Bool) → Determined b → (b HALT ≡ true) ↔ (opcode b ≡ 0x73)
 halt-is b f = (λ e. eqb-true _ _ (sym (f .halt) ∙ e), λ e. f .halt ∙ eq-eqb _ _ e)
 
--- the mux, at each funct3: e, s and u say equal, signed less and unsigned less
+-- the bit that funct3 picks: e, s and u say equal, signed less and unsigned less
+abbrev picked : ℕ → Bool → Bool → Bool → Bool
+picked f e s u =
+    cond (eqb f 0) e
+    (cond (eqb f 1) (not e)
+    (cond (eqb f 4) s
+    (cond (eqb f 5) (not s)
+    (cond (eqb f 6) u
+    (cond (eqb f 7) (not u)
+    false)))))
+
+-- the mux, at each funct3
 mux : (f : ℕ) → f < 8 → (e s u : Bool)
     → (((eqb f 0 ⊻ eqb f 1) && e) ⊻ eqb f 1 ⊻ ((eqb f 4 ⊻ eqb f 5) && s) ⊻ eqb f 5 ⊻ ((eqb f 6 ⊻ eqb f 7) && u) ⊻ eqb f 7)
-    ≡ cond (eqb f 0) e (cond (eqb f 1) (not e) (cond (eqb f 4) s
-    (cond (eqb f 5) (not s) (cond (eqb f 6) u (cond (eqb f 7) (not u) false)))))
+    ≡ picked f e s u
 mux zero l = of-three _ _ refl
 mux (suc zero) l = of-three _ _ refl
 mux (suc (suc zero)) l = of-three _ _ refl
@@ -36,6 +46,45 @@ mux (suc (suc (suc (suc (suc zero))))) l = of-three _ _ refl
 mux (suc (suc (suc (suc (suc (suc zero)))))) l = of-three _ _ refl
 mux (suc (suc (suc (suc (suc (suc (suc zero))))))) l = of-three _ _ refl
 mux (suc (suc (suc (suc (suc (suc (suc (suc f)))))))) l = absurd (omega arith)
+
+-- ---- whatever the adder is set to
+
+module _ (b : ℕ → Bool) (f : Determined b) where
+  -- what funct3 picks of the three bits that the comparison left
+  abbrev pick : ℕ → Bool
+  pick k = picked k (b (ZERO + 63)) (b LTSA ⊻ b LTSB) (b LTUA ⊻ b LTUB ⊻ true)
+
+  taken-picked : b TAKEN ≡ (eqb (opcode b) 0x63 && pick (funct3 b))
+  taken-picked =
+      f .taken ∙ ap₂ _&&_ (f .branch) (cc (
+        f .equal-mux,
+        f .signed-mux,
+        f .unsigned-mux,
+        f .funct3-is 0 (omega arith),
+        f .funct3-is 1 (omega arith),
+        f .funct3-is 4 (omega arith),
+        f .funct3-is 5 (omega arith),
+        f .funct3-is 6 (omega arith),
+        f .funct3-is 7 (omega arith),
+        mux (funct3 b) (funct3-lt b) (b (ZERO + 63)) (b LTSA ⊻ b LTSB) (b LTUA ⊻ b LTUB ⊻ true),
+      ))
+
+  -- so it is 0 under every other opcode
+  pub no-branch-untaken : (opcode b ≡ 0x63 → ⊥) → b TAKEN ≡ false
+  no-branch-untaken other = taken-picked ∙ ap (λ (k : Bool). k && pick (funct3 b)) (ne-eqb (opcode b) 0x63 other)
+
+  unpicked : (k : ℕ) → pick k ≡ false → funct3 b ≡ k → b TAKEN ≡ false
+  unpicked k none e = taken-picked ∙ ap (λ (n : ℕ). eqb (opcode b) 0x63 && pick n) e ∙ ap (_&&_ (eqb (opcode b) 0x63)) none
+      ∙ and-false (eqb (opcode b) 0x63)
+
+  -- and with funct3 2 or 3 under any
+  pub two-untaken : funct3 b ≡ 2 → b TAKEN ≡ false
+  two-untaken = unpicked 2 refl
+
+  pub three-untaken : funct3 b ≡ 3 → b TAKEN ≡ false
+  three-untaken = unpicked 3 refl
+
+-- ---- where it compares
 
 -- T1 is RS1, T2 the complement of RS2, SUB is 1, and ALU is the adder's sum
 module _ (b : ℕ → Bool) (f : Determined b) (t1 : (i : ℕ) → i < 64 → b (T1 + i) ≡ b (RS1 + i))
@@ -73,19 +122,4 @@ module _ (b : ℕ → Bool) (f : Determined b) (t1 : (i : ℕ) → i < 64 → b 
   pub taken-is : b TAKEN ≡ (eqb (opcode b) 0x63 && branchHolds (funct3 b) (word b RS1 64) (word b RS2 64))
   unfolding branchHolds
   taken-is =
-      f .taken ∙ ap₂ _&&_ (f .branch) (cc (
-        f .equal-mux,
-        f .signed-mux,
-        f .unsigned-mux,
-        f .funct3-is 0 (omega arith),
-        f .funct3-is 1 (omega arith),
-        f .funct3-is 4 (omega arith),
-        f .funct3-is 5 (omega arith),
-        f .funct3-is 6 (omega arith),
-        f .funct3-is 7 (omega arith),
-        equal,
-        below,
-        under,
-        mux (funct3 b) (funct3-lt b)
-            (eqb (word b RS1 64) (word b RS2 64)) (belowSigned (word b RS1 64) (word b RS2 64)) (ltb (word b RS1 64) (word b RS2 64)),
-      ))
+      taken-picked b f ∙ cc (equal, below, under)
