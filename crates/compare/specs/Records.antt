@@ -11,7 +11,7 @@ use Rattle.witness.specs.declared.records.RomRow.{RomRow}
 use Rattle.witness.specs.declared.records.VirtualKind.{VirtualKind}
 use Rattle.witness.specs.declared.records.VirtualKind.the-variants.{Alu, ShiftStage, Load, Store, Branch, Upper, Jump, System}
 use Rattle.witness.specs.declared.branch.BranchReading.{BranchReading}
-use Rattle.witness.specs.declared.branch.BranchReading.the-variants.{NoBranch, Taken, NotTaken}
+use Rattle.witness.specs.declared.branch.BranchReading.the-variants.{NoBranch, Taken, NotTaken, Reserved}
 use Rattle.witness.specs.Row.{rowCalled}
 use Rattle.compare.specs.Replies.{Reply, reply, fillReply}
 
@@ -92,3 +92,4 @@ abbrev pub readingNumber : BranchReading → ℕ
 readingNumber NoBranch = 0
 readingNumber Taken = 1
 readingNumber NotTaken = 2
+readingNumber Reserved = 3

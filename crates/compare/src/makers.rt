@@ -122,5 +122,6 @@ pub extern "C" fn compare_read_branch(opcode: u32, funct3: u32, rs1: u64, rs2: u
         BranchReading::NoBranch => 0,
         BranchReading::Taken => 1,
         BranchReading::NotTaken => 2,
+        BranchReading::Reserved => 3,
     }
 }

@@ -81,7 +81,7 @@ fn geometry(n: [u64; 8]) -> bool {
     }
 }
 
-// n: opcode, funct3, RS1, RS2, and 0 for no branch, 1 taken, 2 not taken.
+// n: opcode, funct3, RS1, RS2, and 0 for no branch, 1 taken, 2 not taken, 3 reserved.
 fn branch(n: [u64; 8]) -> bool {
     let opcode = (n[0] % 0x100000000) as u32;
     let funct3 = (n[1] % 0x100000000) as u32;

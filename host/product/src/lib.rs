@@ -552,7 +552,14 @@ pub fn assemble(cpi: usize, cycles: &[u64], public: &[u64], batch: &mut [u64]) -
     }
 }
 
-/// 0 for no branch, 1 for a branch that is taken, 2 for one that is not.
+/// What `read_branch` answers.
+pub mod reading {
+    pub const NO_BRANCH: u64 = 0;
+    pub const TAKEN: u64 = 1;
+    pub const NOT_TAKEN: u64 = 2;
+    pub const RESERVED: u64 = 3;
+}
+
 pub fn read_branch(opcode: u32, funct3: u32, rs1: u64, rs2: u64) -> u64 {
     unsafe { c::compare_read_branch(opcode, funct3, rs1, rs2) }
 }

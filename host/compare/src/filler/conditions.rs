@@ -1,4 +1,6 @@
-//! Document 01's ten step conditions on the words of a cycle.
+//! Document 01's ten step conditions on the words of a cycle, and its branches.
+
+use product::reading;
 
 /// The words that the conditions and demand 3 read. A flag is a bit of `flags`.
 #[derive(Clone, Debug, Default)]
@@ -105,17 +107,33 @@ impl Cycle {
 
     /// A branch, and the ISA's condition for it.
     pub fn takes(&self) -> bool {
-        let (a, b) = (self.rs1, self.rs2);
-        let (signed_a, signed_b) = (a as i64, b as i64);
-        self.opcode == BRANCH_OPCODE
-            && match self.funct3 {
-                0 => a == b,
-                1 => a != b,
-                4 => signed_a < signed_b,
-                5 => signed_a >= signed_b,
-                6 => a < b,
-                7 => a >= b,
-                _ => false,
-            }
+        self.opcode == BRANCH_OPCODE && branch_holds(self.funct3, self.rs1, self.rs2) == Some(true)
+    }
+}
+
+/// What the papers say of an instruction: document 01, and of reserved ones document 02, request 3. The
+/// opcode is compared whole, and of funct3 the low three bits count.
+pub fn branch_reading(opcode: u32, funct3: u32, a: u64, b: u64) -> u64 {
+    if u64::from(opcode) != BRANCH_OPCODE {
+        return reading::NO_BRANCH;
+    }
+    match branch_holds(u64::from(funct3 & 7), a, b) {
+        Some(true) => reading::TAKEN,
+        Some(false) => reading::NOT_TAKEN,
+        None => reading::RESERVED,
+    }
+}
+
+/// The ISA's condition for a funct3 of three bits; it has none for those that it reserves.
+fn branch_holds(funct3: u64, a: u64, b: u64) -> Option<bool> {
+    let (signed_a, signed_b) = (a as i64, b as i64);
+    match funct3 {
+        0 => Some(a == b),
+        1 => Some(a != b),
+        4 => Some(signed_a < signed_b),
+        5 => Some(signed_a >= signed_b),
+        6 => Some(a < b),
+        7 => Some(a >= b),
+        _ => None,
     }
 }

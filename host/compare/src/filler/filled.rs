@@ -1,7 +1,9 @@
 //! Batches filled by the product: what it wrote, and what the original's `check_row` and the product's
 //! checks say of them.
 
-use super::conditions::{Cycle, CONDITIONS};
+use product::reading;
+
+use super::conditions::{branch_reading, Cycle, CONDITIONS};
 use super::cycles::{word, Wanted};
 use super::derived::{derived, first_broken};
 use crate::columns::SIZES;
@@ -21,10 +23,10 @@ const DIRECTED: usize = 256 * 8 * (CONDITIONS + 1);
 const RANDOM: [usize; 9] = [70_000, 6_000, 1_500, 600, 200, 80, 32, 16, 8];
 
 /// Comparisons of one batch: the answer, what was written, the rows that say what, the verdicts and
-/// whether they are what the conditions say, the conditions before and after, halt, taken, and those of
-/// filling and checking in one call.
+/// whether they are what the conditions say, the conditions before and after, halt, taken, taken by the
+/// branch reading, and those of filling and checking in one call.
 fn of_a_batch(cpi: usize) -> u64 {
-    8 + OF_BOTH_AT_ONCE + of_a_house_verdict(cpi)
+    9 + OF_BOTH_AT_ONCE + of_a_house_verdict(cpi)
 }
 
 /// Comparisons that `at_once` makes.
@@ -238,6 +240,26 @@ fn fills(
     let taken: Vec<bool> = comparing().map(|d| bit(TAKEN, d)).collect();
     let right = comparing().map(|d| cycles[d].takes()).collect();
     tally.same(|| format!("{}, taken", place()), taken, right);
+    let other = (0..cpi).find(|&d| !taken_as_read(&cycles[d], bit(TAKEN, d)));
+    let by_reading = || {
+        format!(
+            "{}, a cycle read otherwise, or taken not as it is read",
+            place()
+        )
+    };
+    tally.same(by_reading, other, None);
+}
+
+/// Whether the product reads the cycle as the papers do, and taken is as it is read: in a cycle that
+/// compares 1 exactly for taken, and in every cycle 0 for no branch and for one that is reserved.
+fn taken_as_read(cycle: &Cycle, taken: bool) -> bool {
+    let (opcode, funct3) = (cycle.opcode as u32, cycle.funct3 as u32);
+    let right = branch_reading(opcode, funct3, cycle.rs1, cycle.rs2);
+    let as_it_is_read = match right {
+        reading::NO_BRANCH | reading::RESERVED => !taken,
+        _ => !cycle.compares() || taken == (right == reading::TAKEN),
+    };
+    as_it_is_read && product::read_branch(opcode, funct3, cycle.rs1, cycle.rs2) == right
 }
 
 /// A filled batch with anything else in its derived columns, filled and checked in one call: it is

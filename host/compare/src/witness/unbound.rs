@@ -356,6 +356,11 @@ pub fn tests() -> Vec<Test> {
             not_taken,
         ),
         test(
+            "accepted, and no step of RV64I: a branch with funct3 2 or 3, which RV64I reserves",
+            2 * 2 * 4,
+            reserved_branch,
+        ),
+        test(
             "accepted, and no step of RV64I: the next cycle at any pc",
             4,
             next_pc,
@@ -494,6 +499,27 @@ fn not_taken(tally: &mut Tally) {
     for (alu, right) in [(vec![], 1), (vec![ALU], 0)] {
         let batch = filled(&[&[&BEQ[..], &alu].concat()], 0);
         tally.same(|| format!("taken, ALU {alu:?}"), batch.z[TAKEN].0, right);
+    }
+}
+
+/// With all flags clear, and with the adder set to compare x0 with x0. Both have taken 0, and are read as
+/// reserved.
+fn reserved_branch(tally: &mut Tally) {
+    const BRANCH: [usize; 4] = [OP0, OP1, OP5, OP6];
+    let all_ones = (0..64).map(|i| T2 + i);
+    let compares: Vec<usize> = all_ones.chain([RD_X0, SUB, ARITH]).collect();
+    for funct3 in [&[F1][..], &[F0, F1]] {
+        for rest in [&[][..], &compares] {
+            let batch = filled(&[&[&BRANCH[..], funct3, rest].concat()], 0);
+            let place = || format!("funct3 {funct3:?}");
+            tally.same(place, verdicts(&batch), (accepted(1), None));
+            tally.same(|| "taken".into(), batch.z[TAKEN].0, 0);
+            let step = step_of(&batch, 0);
+            tally.same(place, (step.opcode, step.funct3 & 6), (0x63, 2));
+            let (opcode, funct3) = (step.opcode as u32, step.funct3 as u32);
+            let read = product::read_branch(opcode, funct3, step.rs1.0, step.rs2.0);
+            tally.same(place, read, product::reading::RESERVED);
+        }
     }
 }
 

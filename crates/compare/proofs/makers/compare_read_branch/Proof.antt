@@ -14,7 +14,11 @@ returns-2 c = ap readingNumber (sym (c .enum-told2 .given .1) ∙ c .before .bef
 returns-3 : tie.Need-returns-3
 returns-3 c = ap readingNumber (sym (c .enum-told3 .given .1) ∙ c .before .before .read-branch .ensures)
 
+returns-4 : tie.Need-returns-4
+returns-4 c = ap readingNumber (sym (c .enum-told4 .given .1) ∙ c .before .before .read-branch .ensures)
+
 pub compare-read-branch-spec : {M : Type 1} → statement M
 compare-read-branch-spec =
     tie.close
-    (tie.spec (λ c κs. search needs) (λ c. search needs) (λ c. search needs) (λ c. search needs) returns returns-2 returns-3)
+    (tie.spec (λ c κs. search needs) (λ c. search needs) (λ c. search needs) (λ c. search needs) (λ c. search needs)
+    returns returns-2 returns-3 returns-4)

@@ -58,7 +58,7 @@ const DESCRIPTION: &str = "\
 # original does not have, are document 01's.
 # m a: product and sum of two elements (low, high, low, high) and the result (low, high). l: an element, a shift, the result.
 # g: cpi, w_cols, m, one_col, w128. c z: cpi, column, cycle, batch column. b: cpi, batch column, column, cycle.
-# t: opcode, funct3, RS1, RS2, and 0 for no branch, 1 taken, 2 not taken.
+# t: opcode, funct3, RS1, RS2, and 0 for no branch, 1 taken, 2 not taken, 3 reserved: so document 02; the original says not taken there.
 # 0: all elements of the batch become 0. s: column, low, high. w: 40 columns from one on, so far apart, hold the bits of a word.
 # Z: all lent words become 0. W: as w, for the lent words. r: lent words from one on, at most seven, and 0 for those left out.
 # k: cpi, the verdict on the batch against the house listing (0 accepted, 1 fails in bin, 2 in fld), batch row, rows; or 3 and a

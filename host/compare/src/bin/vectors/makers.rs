@@ -140,7 +140,10 @@ pub fn branches() {
     pairs.extend((0..7).map(|_| (numbers.next(), numbers.next())));
     for (a, b) in pairs {
         for funct3 in 0..8 {
-            let read = if branch_taken(funct3, a, b) { 1 } else { 2 };
+            let read = match (funct3, branch_taken(funct3, a, b)) {
+                (2 | 3, false) => 3,
+                (_, taken) => 2 - u64::from(taken),
+            };
             let higher = funct3 + 8 * (numbers.next() % 0x1000_0000) as u32;
             println!("t 63 {funct3:x} {a:x} {b:x} {read}");
             println!("t 63 {higher:x} {a:x} {b:x} {read}");
@@ -158,7 +161,7 @@ pub fn branches() {
         0x163,
         0x8000_0063_u32,
     ] {
-        for funct3 in [0, 1] {
+        for funct3 in 0..4 {
             println!("t {opcode:x} {funct3:x} 5 5 0");
         }
     }

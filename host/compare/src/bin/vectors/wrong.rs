@@ -1,5 +1,5 @@
-//! Lines with a number that is not the original's answer, so that a replay which calls every line right is
-//! seen to be wrong.
+//! Lines with a number that is not the answer owed, so that a replay which calls every line right is seen to
+//! be wrong.
 
 use std::fmt::Write;
 use std::ops::Range;
@@ -25,6 +25,11 @@ pub fn lines() {
         println!("t 63 0 5 5 {read:x}");
     }
     changed("t", &[0x33, 0, 5, 5, 0], 4..5);
+    // The original's answer where the ISA reserves, and reserved where it does not.
+    for (funct3, read) in [(2, 2), (3, 2), (1, 3)] {
+        println!("t 63 {funct3:x} 5 5 {read:x}");
+    }
+    println!("t 33 2 5 5 3");
 }
 
 /// The line with one answer after the other changed in its lowest bit.
