@@ -4,12 +4,10 @@
 -- Assumes nothing.
 use mathlib.Core.Path.{_≡_, refl, sym, ap, ap₂, subst, _∙_}
 use mathlib.Core.Logic.{_↔_}
-use mathlib.Core.Bool.{Bool, true, false, not, _&&_, false≢true}
+use mathlib.Core.Bool.{Bool, true, false, not, false≢true}
 use mathlib.Core.List.{List}
 use Prim.Native.Nat.{ℕ, _+_, _-_, _^_, _<_}
 use native.Mathlib.Omega.{arith}
-use borrow.Author.Tests.{eqb-true, eq-eqb}
-use lib.Dec.{eqb}
 use lib.ListN.{length, replicate}
 use Rattle.base.specs.Bits.{word, signed}
 use Rattle.base.specs.Laws.Values.{val-same, same-bits, complement}
@@ -28,6 +26,7 @@ use Rattle.step.specs.Derived.{derived}
 use Rattle.step.specs.Filling.{filled}
 use Rattle.step.specs.Demand3.{Premises, accepts, Compares}
 use Rattle.step.specs.Laws.Given.{SameGiven, same-word}
+use Rattle.step.specs.Laws.Taken.{branchTaken, taken-exactly}
 use Rattle.step.specs.Laws.Batch.{filled-zero}
 use Rattle.step.specs.Laws.Proved.{demand3}
 use Rattle.step.specs.Laws.Chosen.{batchOf, withOne, all-bits-of, premises-of, filled-given}
@@ -140,18 +139,17 @@ module _ (cpi : ℕ) (size : allowed cpi ≡ true) (o f x y : ℕ) (lo : o < 2 ^
       }
 
   -- the taken column is the bit of both tests
-  pub taken-bit : (d : ℕ) → d < cpi → cycleOf cpi (filled cpi batch) d TAKEN ≡ ofBit (eqb o 0x63 && branchHolds f x y)
-  taken-bit d l = go (eqb o 0x63 && branchHolds f x y) refl
+  pub taken-bit : (d : ℕ) → d < cpi → cycleOf cpi (filled cpi batch) d TAKEN ≡ ofBit (branchTaken o f x y)
+  taken-bit d l = go (branchTaken o f x y) refl
     where
       k : Decided cpi o f x y (replicate SCRATCH-WORDS 0)
       k = decided (replicate SCRATCH-WORDS 0) some-scratch
 
-      go : (h : Bool) → (eqb o 0x63 && branchHolds f x y) ≡ h → cycleOf cpi (filled cpi batch) d TAKEN ≡ ofBit h
-      go true e = let q = both (eqb o 0x63) (branchHolds f x y) e in k .taken d l .1 (eqb-true o 0x63 (q .0), q .1)
+      go : (h : Bool) → branchTaken o f x y ≡ h → cycleOf cpi (filled cpi batch) d TAKEN ≡ ofBit h
+      go true e = k .taken d l .1 (taken-exactly o f x y .0 e)
       go false e =
-          filled-zero cpi some batch p d l TAKEN (omega arith) (λ t.
-          let q = k .taken d l .0 t in
-          false≢true (sym e ∙ ap₂ _&&_ (eq-eqb o 0x63 (q .0)) (q .1)))
+          filled-zero cpi some batch p d l TAKEN (omega arith)
+          (λ t. false≢true (sym e ∙ taken-exactly o f x y .1 (k .taken d l .0 t)))
 
 pub every-comparison : (cpi : ℕ) → allowed cpi ≡ true → (o f x y : ℕ) → o < 2 ^ 7 → (o ≡ 0x73 → ⊥) → f < 8 → x < 2 ^ 64 → y < 2 ^ 64
     → (scratch : List ℕ) → scratchFits (length scratch) ≡ true → Decided cpi o f x y scratch

@@ -1,18 +1,16 @@
 -- Demand 3 proved: of any listing of the house rows and further bin rows, and so of the house listing.
 -- Assumes nothing.
-use mathlib.Core.Path.{_≡_, refl, sym, ap, ap₂, _∙_}
+use mathlib.Core.Path.{_≡_, refl, sym, ap, _∙_}
 use mathlib.Core.Logic.{_↔_}
-use mathlib.Core.Bool.{Bool, true, false, not, false≢true, _&&_}
+use mathlib.Core.Bool.{Bool, true, false, not, false≢true}
 use mathlib.Core.List.{List, []}
 use Prim.Native.Nat.{ℕ, _+_, _*_, _≤_, _<_}
 use native.Mathlib.Omega.{arith}
-use borrow.Author.Tests.{eq-eqb, eqb-true}
 use lib.Dec.{eqb}
 use lib.ListN.{length}
 use Rattle.base.specs.Bits.{digit, word}
 use Rattle.base.specs.Lists.{All}
 use Rattle.base.specs.Laws.Values.{same-bits}
-use Rattle.base.specs.Laws.Tests.{both}
 use Rattle.base.specs.Laws.Cases.{no-true}
 use Rattle.field.specs.declared.Gf128.{Gf128}
 use Rattle.field.specs.Gf.{low, ofBit}
@@ -28,13 +26,12 @@ use Rattle.verdict.specs.declared.CheckAnswer.the-variants.{Judged}
 use Rattle.verdict.specs.Row.{cycleOf, holds, bitsOf}
 use Rattle.verdict.specs.Check.{judged, checked}
 use Rattle.step.specs.Step.{Step, opcode, funct3}
-use Rattle.step.specs.Branch.{branchHolds}
 use Rattle.step.specs.Derived.{derivedIn}
 use Rattle.step.specs.Solve.{Holds}
 use Rattle.step.specs.Determining.{determining}
 use Rattle.step.specs.Filling.{filling, countFillings, fillerBits, filled}
 use Rattle.step.specs.Demand3.{Premises, accepts, fails, Compares, TakesBranch, Demand3}
-use Rattle.step.specs.Laws.Taken.{halt-is, taken-is}
+use Rattle.step.specs.Laws.Taken.{halt-is, taken-is, taken-exactly}
 use Rattle.step.specs.Laws.Cycle.{all-bin}
 use Rattle.step.specs.Laws.Count.{count-one, count-none}
 use Rattle.step.specs.Laws.FillingElements.{filling-length}
@@ -135,10 +132,8 @@ module _ (listing : List ℕ) (further : List Sides) (l : Listed listing further
       let others = split cpi some w p v d k (accepts-rows v .0 h d k .0) .1 in
       let e = taken-is (bits d) (filled-determined cpi some w p d k) (same-bits _ _ 64 (c .t1)) (c .t2) (c .subtract)
       (others .sum (c .arithmetic)) in
-      let holding = branchHolds (funct3 (bits d)) (word (bits d) RS1 64) (word (bits d) RS2 64) in (
-        λ q. let b = both (eqb (opcode (bits d)) 0x63) holding (sym e ∙ i .0 q) in (eqb-true _ _ (b .0), b .1),
-        λ q. i .1 (e ∙ ap₂ _&&_ (eq-eqb (opcode (bits d)) 0x63 (q .0)) (q .1)),
-      )
+      let tests = taken-exactly (opcode (bits d)) (funct3 (bits d)) (word (bits d) RS1 64) (word (bits d) RS2 64) in
+      (λ q. tests .0 (sym e ∙ i .0 q), λ q. i .1 (e ∙ tests .1 q))
 
   pub proved : Demand3 listing Conditions cpi w scratch
   unfolding filled

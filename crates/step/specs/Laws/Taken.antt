@@ -1,5 +1,6 @@
 -- Halt and taken where the determining rows hold: halt is 1 exactly when the opcode is 0x73; taken, where the adder subtracts RS2 from
--- RS1, is 1 exactly when the opcode is 0x63 and the ISA's condition holds.
+-- RS1, is 1 exactly when the opcode is 0x63 and the ISA's condition holds. Whatever the adder is set to, taken is 0 under another opcode
+-- than 0x63, and with funct3 2 or 3.
 -- Assumes nothing.
 use mathlib.Core.Path.{_≡_, refl, sym, ap, ap₂, _∙_}
 use mathlib.Core.Logic.{_↔_}
@@ -10,6 +11,7 @@ use borrow.Author.Tests.{eqb-true, eq-eqb, ne-eqb}
 use lib.Dec.{eqb, ltb}
 use Rattle.base.specs.Bits.{_⊻_, word, majority, Carries, signedLess}
 use Rattle.base.specs.Laws.Values.{val-same}
+use Rattle.base.specs.Laws.Tests.{both}
 use Rattle.base.specs.Laws.Cases.{of-three}
 use Rattle.base.specs.Laws.Compare.{unsigned-less, equal-words, signed-less}
 use Rattle.layout.specs.Columns.{RS1, RS2, T1, T2, CARRY-OFF, ALU, SUB, HALT, TAKEN, ZERO, LTSA, LTSB, LTUA, LTUB}
@@ -21,6 +23,19 @@ use Rattle.step.specs.Laws.Conditions.{Summed}
 
 pub halt-is : (b : ℕ → Bool) → Determined b → (b HALT ≡ true) ↔ (opcode b ≡ 0x73)
 halt-is b f = (λ e. eqb-true _ _ (sym (f .halt) ∙ e), λ e. f .halt ∙ eq-eqb _ _ e)
+
+-- demand 3's two tests of a branch that is taken, as one bit: of opcode, funct3, RS1 and RS2, and of those that a cycle holds
+abbrev pub branchTaken : ℕ → ℕ → ℕ → ℕ → Bool
+branchTaken o f x y = eqb o 0x63 && branchHolds f x y
+
+abbrev pub cycleTaken : (ℕ → Bool) → Bool
+cycleTaken b = branchTaken (opcode b) (funct3 b) (word b RS1 64) (word b RS2 64)
+
+pub taken-exactly : (o f x y : ℕ) → (branchTaken o f x y ≡ true) ↔ ((o ≡ 0x63) × (branchHolds f x y ≡ true))
+taken-exactly o f x y = (
+  λ e. let q = both (eqb o 0x63) (branchHolds f x y) e in (eqb-true o 0x63 (q .0), q .1),
+  λ q. ap₂ _&&_ (eq-eqb o 0x63 (q .0)) (q .1),
+)
 
 -- the bit that funct3 picks: e, s and u say equal, signed less and unsigned less
 abbrev picked : ℕ → Bool → Bool → Bool → Bool
@@ -119,7 +134,6 @@ module _ (b : ℕ → Bool) (f : Determined b) (t1 : (i : ℕ) → i < 64 → b 
       f .no-carry-out ∙ ap₂ (λ (x y : Bool). not (majority x y (carry 63))) (t1 63 (omega arith)) (t2 63 (omega arith))
       ∙ unsigned-less 63 rs1 rs2 carry first carries
 
-  pub taken-is : b TAKEN ≡ (eqb (opcode b) 0x63 && branchHolds (funct3 b) (word b RS1 64) (word b RS2 64))
+  pub taken-is : b TAKEN ≡ cycleTaken b
   unfolding branchHolds
-  taken-is =
-      taken-picked b f ∙ cc (equal, below, under)
+  taken-is = taken-picked b f ∙ cc (equal, below, under)

@@ -3,16 +3,13 @@
 -- Assumes nothing.
 use mathlib.Core.Path.{_≡_, refl, sym, ap, ap₂, _∙_}
 use mathlib.Core.Logic.{_↔_, _⊎_, inl, inr}
-use mathlib.Core.Bool.{Bool, true, false, _&&_, false≢true}
+use mathlib.Core.Bool.{Bool, true, false, false≢true}
 use mathlib.Core.List.{List}
 use Prim.Native.Nat.{ℕ, _%_, _<_}
 use native.Mathlib.Nat.{mod-eq-of-lt}
 use native.Mathlib.Omega.{arith}
-use borrow.Author.Tests.{eqb-true, eq-eqb}
-use lib.Dec.{eqb}
 use lib.ListN.{length}
 use Rattle.base.specs.Bits.{word}
-use Rattle.base.specs.Laws.Tests.{both}
 use Rattle.base.specs.Laws.Cases.{no-true}
 use Rattle.field.specs.declared.Gf128.{Gf128}
 use Rattle.field.specs.Gf.{zero, one, ofBit}
@@ -27,7 +24,7 @@ use Rattle.step.specs.Filling.{filled}
 use Rattle.step.specs.Demand3.{Premises, Compares, TakesBranch, FillerAccepted, Demand3}
 use Rattle.step.specs.Laws.Step.{funct3-lt}
 use Rattle.step.specs.Laws.Determined.{Determined}
-use Rattle.step.specs.Laws.Taken.{no-branch-untaken, two-untaken, three-untaken}
+use Rattle.step.specs.Laws.Taken.{cycleTaken, taken-exactly, no-branch-untaken, two-untaken, three-untaken}
 use Rattle.step.specs.Laws.Batch.{filled-bit, filled-zero, filled-determined}
 use Rattle.step.specs.Laws.Proved.{demand3}
 use Rattle.step.specs.Laws.Branches.{Instruction}
@@ -64,29 +61,23 @@ isTaken Taken = true
 isTaken NotTaken = false
 isTaken Reserved = false
 
--- demand 3's two tests
-abbrev pub takes : (ℕ → Bool) → Bool
-takes b = eqb (opcode b) 0x63 && branchHolds (funct3 b) (word b RS1 64) (word b RS2 64)
-
--- an element that is as the cycle is read is their bit
-pub as-read-is : (b : ℕ → Bool) (column : Gf128) → TakenAsRead b column
-    → column ≡ ofBit (takes b)
+-- an element that is as the cycle is read is the bit of demand 3's two tests
+pub as-read-is : (b : ℕ → Bool) (column : Gf128) → TakenAsRead b column → column ≡ ofBit (cycleTaken b)
 unfolding isTaken
 as-read-is b column t = go (cycleReading b) refl
   where
-    untaken : isTaken (cycleReading b) ≡ false → takes b ≡ false
-    untaken n = no-true (takes b) (λ e.
-        let q = both (eqb (opcode b) 0x63) (branchHolds (funct3 b) (word b RS1 64) (word b RS2 64)) e in
-        false≢true (sym n ∙ ap isTaken (reads-taken b .0 (eqb-true (opcode b) 0x63 (q .0), q .1))))
+    tests : (cycleTaken b ≡ true) ↔ TakesBranch b
+    tests = taken-exactly (opcode b) (funct3 b) (word b RS1 64) (word b RS2 64)
 
-    is-zero : isTaken (cycleReading b) ≡ false → column ≡ zero → column ≡ ofBit (takes b)
+    untaken : isTaken (cycleReading b) ≡ false → cycleTaken b ≡ false
+    untaken n = no-true (cycleTaken b) (λ e. false≢true (sym n ∙ ap isTaken (reads-taken b .0 (tests .0 e))))
+
+    is-zero : isTaken (cycleReading b) ≡ false → column ≡ zero → column ≡ ofBit (cycleTaken b)
     is-zero n z = z ∙ sym (ap (λ (k : Bool). ofBit k) (untaken n))
 
-    go : (r : BranchReading) → cycleReading b ≡ r → column ≡ ofBit (takes b)
+    go : (r : BranchReading) → cycleReading b ≡ r → column ≡ ofBit (cycleTaken b)
     go NoBranch e = is-zero (ap isTaken e) (t .no-branch e)
-    go Taken e =
-        let q = reads-taken b .1 e in
-        t .taken .1 e ∙ sym (ap (λ (k : Bool). ofBit k) (ap₂ _&&_ (eq-eqb (opcode b) 0x63 (q .0)) (q .1)))
+    go Taken e = t .taken .1 e ∙ sym (ap (λ (k : Bool). ofBit k) (tests .1 (reads-taken b .1 e)))
     go NotTaken e = is-zero (ap isTaken e) (t .not-taken e)
     go Reserved e = is-zero (ap isTaken e) (t .reserved e)
 
@@ -94,7 +85,7 @@ as-read-is b column t = go (cycleReading b) refl
 pub column-is : (listing : List ℕ) (Conditions : (ℕ → Bool) → Gf128 → Type 0) (cpi : ℕ) (batch scratch : List ℕ)
     → TakenColumn listing Conditions cpi batch scratch → FillerAccepted listing Conditions cpi batch scratch
     → (d : ℕ) → d < cpi → Compares (bitsOf cpi (filled cpi batch) d)
-    → cycleOf cpi (filled cpi batch) d TAKEN ≡ ofBit (takes (bitsOf cpi (filled cpi batch) d))
+    → cycleOf cpi (filled cpi batch) d TAKEN ≡ ofBit (cycleTaken (bitsOf cpi (filled cpi batch) d))
 column-is listing Conditions cpi batch scratch t accepted d h c = as-read-is _ _ (t accepted d h c)
 
 -- ---- the taken column

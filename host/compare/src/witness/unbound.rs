@@ -508,17 +508,17 @@ fn reserved_branch(tally: &mut Tally) {
     const BRANCH: [usize; 4] = [OP0, OP1, OP5, OP6];
     let all_ones = (0..64).map(|i| T2 + i);
     let compares: Vec<usize> = all_ones.chain([RD_X0, SUB, ARITH]).collect();
-    for funct3 in [&[F1][..], &[F0, F1]] {
-        for rest in [&[][..], &compares] {
-            let batch = filled(&[&[&BRANCH[..], funct3, rest].concat()], 0);
-            let place = || format!("funct3 {funct3:?}");
-            tally.same(place, verdicts(&batch), (accepted(1), None));
-            tally.same(|| "taken".into(), batch.z[TAKEN].0, 0);
+    for (funct3, columns) in [(2, &[F1][..]), (3, &[F0, F1])] {
+        for (flags, rest) in [("clear", &[][..]), ("as they compare", &compares)] {
+            let batch = filled(&[&[&BRANCH[..], columns, rest].concat()], 0);
+            let place = |what| format!("funct3 {funct3}, flags {flags}: {what}");
+            tally.same(|| place("verdicts"), verdicts(&batch), (accepted(1), None));
+            tally.same(|| place("taken"), batch.z[TAKEN].0, 0);
             let step = step_of(&batch, 0);
-            tally.same(place, (step.opcode, step.funct3 & 6), (0x63, 2));
-            let (opcode, funct3) = (step.opcode as u32, step.funct3 as u32);
-            let read = product::read_branch(opcode, funct3, step.rs1.0, step.rs2.0);
-            tally.same(place, read, product::reading::RESERVED);
+            let instruction = (step.opcode, step.funct3);
+            tally.same(|| place("the instruction"), instruction, (0x63, funct3));
+            let read = product::read_branch(0x63, funct3 as u32, step.rs1.0, step.rs2.0);
+            tally.same(|| place("its reading"), read, product::reading::RESERVED);
         }
     }
 }

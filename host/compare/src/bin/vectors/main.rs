@@ -1,6 +1,6 @@
 //! Writes the vector file of the program `replay` to standard output: a sample of the original's answers, so that they are replayed
 //! where the original is not at hand. What the original does not have is document 01's: refusals, the bit test and the step
-//! conditions, by the readings of it that the comparison has.
+//! conditions, by the readings of it that the comparison has. That a branch is reserved is document 02's.
 
 #[allow(dead_code)] // of each of these files the comparison uses more
 #[path = "../../verdict/answer.rs"]
