@@ -560,6 +560,7 @@ pub mod reading {
     pub const RESERVED: u64 = 3;
 }
 
+/// One of the numbers of `reading`.
 pub fn read_branch(opcode: u32, funct3: u32, rs1: u64, rs2: u64) -> u64 {
     unsafe { c::compare_read_branch(opcode, funct3, rs1, rs2) }
 }

@@ -11,7 +11,6 @@ use native.Mathlib.Omega.{arith}
 use lib.ListN.{length, replicate}
 use Rattle.base.specs.Bits.{word, signed}
 use Rattle.base.specs.Laws.Values.{val-same, same-bits, complement}
-use Rattle.base.specs.Laws.Tests.{both}
 use Rattle.field.specs.Gf.{zero, one, ofBit}
 use Rattle.layout.specs.Columns.{ONE-COL, RS1, RS2, T1, T2, SUB, IS-ARITH, TAKEN, FETCH-OP, FETCH-FUNCT3}
 use Rattle.layout.specs.Batch.{allowed, scratchFits, SCRATCH-WORDS}

@@ -11,7 +11,7 @@ use borrow.Author.Tests.{eqb-true, eq-eqb, ne-eqb}
 use lib.Dec.{eqb, ltb}
 use Rattle.base.specs.Bits.{_⊻_, word, majority, Carries, signedLess}
 use Rattle.base.specs.Laws.Values.{val-same}
-use Rattle.base.specs.Laws.Tests.{both}
+use Rattle.base.specs.Laws.Tests.{both-so}
 use Rattle.base.specs.Laws.Cases.{of-three}
 use Rattle.base.specs.Laws.Compare.{unsigned-less, equal-words, signed-less}
 use Rattle.layout.specs.Columns.{RS1, RS2, T1, T2, CARRY-OFF, ALU, SUB, HALT, TAKEN, ZERO, LTSA, LTSB, LTUA, LTUB}
@@ -32,10 +32,7 @@ abbrev pub cycleTaken : (ℕ → Bool) → Bool
 cycleTaken b = branchTaken (opcode b) (funct3 b) (word b RS1 64) (word b RS2 64)
 
 pub taken-exactly : (o f x y : ℕ) → (branchTaken o f x y ≡ true) ↔ ((o ≡ 0x63) × (branchHolds f x y ≡ true))
-taken-exactly o f x y = (
-  λ e. let q = both (eqb o 0x63) (branchHolds f x y) e in (eqb-true o 0x63 (q .0), q .1),
-  λ q. ap₂ _&&_ (eq-eqb o 0x63 (q .0)) (q .1),
-)
+taken-exactly o f x y = both-so (eqb o 0x63) (branchHolds f x y) (eqb-true o 0x63, eq-eqb o 0x63) (λ e. e, λ e. e)
 
 -- the bit that funct3 picks: e, s and u say equal, signed less and unsigned less
 abbrev picked : ℕ → Bool → Bool → Bool → Bool

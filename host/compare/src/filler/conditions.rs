@@ -1,4 +1,4 @@
-//! Document 01's ten step conditions on the words of a cycle, and its branches.
+//! Document 01's ten step conditions on the words of a cycle, and the branch reading of documents 01 and 02.
 
 use product::reading;
 
