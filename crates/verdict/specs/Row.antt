@@ -42,6 +42,10 @@ balanced s = same (product (s .a) (s .b)) (s .c)
 abbrev pub holds : (ℕ → Gf128) → Sides → Bool
 holds z s = balanced (sumsOf z s)
 
--- cycle d of a batch as bits: a column's bit is whether its low word is 1. (Over elements 0 and 1, that is which of them it is.)
+-- an element as a bit: whether its low word is 1. (Of the elements 0 and 1, that is which of them it is.)
+abbrev pub asBit : Gf128 → Bool
+asBit x = eqb (low x) 1
+
+-- cycle d of a batch as bits
 unfoldable pub bitsOf : ℕ → List ℕ → ℕ → ℕ → Bool
-bitsOf cpi batch d c = eqb (low (cycleOf cpi batch d c)) 1
+bitsOf cpi batch d c = asBit (cycleOf cpi batch d c)

@@ -109,3 +109,11 @@ copied-fits words start before after h w =
     behind : (i : ℕ) → start + length words ≤ i → Dec (i < length before) → getD after i 0 ≡ getD before i 0
     behind i l (yes q) = w .here i (omega arith) q ∙ sym (refused _ _ _ (le-ltb i (start + length words) l))
     behind i l (no q) = w .right i (omega arith)
+
+-- where they take all the room
+pub copied-whole : (words before after : List ℕ) → length before ≡ length words → Written (copied words 0 before) 0 (length before) before after
+    → after ≡ words
+copied-whole words before after e w =
+    ext-getD 0 after words (w .lengths ∙ e)
+    (λ i l. copied-fits words 0 before after (omega arith) w .here i (omega arith) (omega (arith, w .lengths))
+    ∙ ap (λ (k : ℕ). getD words k 0) (omega arith))

@@ -50,6 +50,13 @@ pub after-yes : (a : Asked) (made there u : List ℕ) → after a made there ≡
 after-yes Yes made there u e = (refl, ap (λ (c : Called). c .batch) (sym e))
 after-yes (No r) made there u e = let q = ap (λ (c : Called). c .answer) e in let z : _≡_ {A = ℕ} 0 1 = cc in absurd (omega arith)
 
+-- what a call is, from what the questions came to
+pub called-yes : (a : Asked) (made there u : List ℕ) → a ≡ Yes → u ≡ made → record { answer = Yes; batch = u } ≡ after a made there
+called-yes a made there u e h = ap (λ (v : List ℕ). record { answer = Yes; batch = v }) h ∙ ap (λ (q : Asked). after q made there) (sym e)
+
+pub called-no : (a : Asked) (r : Refusal) (made there : List ℕ) → a ≡ No r → record { answer = No r; batch = there } ≡ after a made there
+called-no a r made there e = ap (λ (q : Asked). after q made there) (sym e)
+
 -- questions 1 and 2: what a yes says, and when it is given
 pub batch-yes : (cpi words : ℕ) → batchAsked cpi words ≡ Yes → (allowed cpi ≡ true) × (words ≡ batchWords cpi)
 unfolding batchAsked
