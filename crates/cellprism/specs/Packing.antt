@@ -14,4 +14,4 @@ pub record BytesIn (bytes : List ℕ) (first last : ℕ) (out : List ℕ) : Type
   pub row : length bytes ≡ 65536
   pub order : first ≤ last
   pub inside : last ≤ 32
-  pub room : length out ≡ 32
+  pub room : last ≤ length out

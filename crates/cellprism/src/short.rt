@@ -7,8 +7,7 @@ ghost use mathlib.Core.Logic.{_↔_};
 ghost use Prim.Native.Nat.{_+_, _*_, _<_};
 ghost use lib.ListN.{length, getD};
 ghost use Rattle.verdict.specs.Row.{elementAt};
-ghost use Rattle.packed.specs.One.{rowSum, BitsFrom};
-ghost use Rattle.packed.specs.Ranges.{Ranged};
+ghost use Rattle.packed.specs.One.{rowSum, BitsFrom, InRow};
 ghost use Rattle.judge.specs.Short.{shortYes};
 ghost use Rattle.cellprism.specs.Bytes.{rowOf};
 ghost use Rattle.cellprism.specs.Packing.{WordsIn, BytesIn};
@@ -83,7 +82,7 @@ fn seen_at(bytes: &[u8], i: usize) -> u64
 // Words `first` to before `last`. The answer is 0 exactly where their columns are bits.
 fn pack_words(bytes: &[u8], first: usize, last: usize, out: &mut [u64]) -> u64
     requires { ⌜ BytesIn (now bytes) first last (now out) ⌝ }
-    ensures { λ r. ⌜ Ranged 1 (rowOf (now (bytes .entry))) first last (now (out .entry)) (now (out .exit)) r ⌝ }
+    ensures { λ r. ⌜ InRow (rowOf (now (bytes .entry))) first last (now (out .entry)) (now (out .exit)) r ⌝ }
 {
     let mut bad: u64 = 0;
     let mut k = first;

@@ -13,7 +13,7 @@ use Rattle.witness.specs.declared.records.VirtualKind.the-variants.{Alu, ShiftS
 use Rattle.witness.specs.declared.branch.BranchReading.{BranchReading}
 use Rattle.witness.specs.declared.branch.BranchReading.the-variants.{NoBranch, Taken, NotTaken, Reserved}
 use Rattle.witness.specs.Row.{rowCalled}
-use Rattle.compare.specs.Replies.{Reply, reply, fillReply}
+use Rattle.compare.specs.Replies.{Reply, reply, calledReply}
 
 abbrev flag : List ℕ → ℕ → Bool
 flag ws i = eqb (getD ws i 0 % 2) 1
@@ -86,7 +86,7 @@ abbrev pub rowReply : List ℕ → List ℕ → List ℕ → List ℕ → Reply
 rowReply cycle rom public row =
     cond (ltb (length cycle) 30) (reply (2 ^ 63) row)
     (cond (ltb (length rom) 8) (reply (2 ^ 63) row)
-    (fillReply (rowCalled (recordOf cycle) (romRowOf rom) public row)))
+    (calledReply (rowCalled (recordOf cycle) (romRowOf rom) public row)))
 
 abbrev pub readingNumber : BranchReading → ℕ
 readingNumber NoBranch = 0

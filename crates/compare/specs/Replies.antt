@@ -25,7 +25,7 @@ use Rattle.filler.specs.declared.conditions.StepAnswer.{StepAnswer}
 use Rattle.filler.specs.declared.conditions.StepAnswer.the-variants.{Meets, Unmet, Refused as NotAsked}
 use Rattle.packed.specs.declared.Packing.{Packing}
 use Rattle.packed.specs.declared.Packing.the-variants.{Bits, NotBits, Refused as NotPacked}
-use Rattle.packed.specs.Packed.{PackCalled}
+use Rattle.packed.specs.Packed.{NamedCalled}
 use Rattle.judge.specs.FillCheck.{FillChecked}
 use Rattle.compare.specs.Numbers.{refusedAt, byRelation}
 
@@ -76,9 +76,9 @@ bitNumber AllBits = 0
 bitNumber (NotBit at c d) = 2 ^ 62 + d * 2 ^ 48 + c * 2 ^ 32 + at
 bitNumber (NotTested r) = refusedAt r
 
--- ---- the filler and the conditions
+-- ---- the filler, the conditions, and packed words
 
--- filled: 0
+-- yes: 0
 abbrev pub askedNumber : Asked → ℕ
 askedNumber Yes = 0
 askedNumber (No r) = refusedAt r
@@ -88,11 +88,11 @@ packingNumber Bits = 0
 packingNumber NotBits = 1
 packingNumber (NotPacked r) = refusedAt r
 
-abbrev pub packReply : PackCalled → Reply
+abbrev pub packReply : NamedCalled → Reply
 packReply c = reply (packingNumber (c .answer)) (c .out)
 
-abbrev pub fillReply : Called → Reply
-fillReply c = reply (askedNumber (c .answer)) (c .batch)
+abbrev pub calledReply : Called → Reply
+calledReply c = reply (askedNumber (c .answer)) (c .batch)
 
 -- all met: 0
 abbrev pub stepNumber : StepAnswer → ℕ

@@ -2,7 +2,7 @@
 ghost use mathlib.Core.Path.{_≡_};
 ghost use Rattle.step.specs.Fill.{called};
 ghost use Rattle.filler.specs.Met.{stepAnswer};
-ghost use Rattle.compare.specs.Replies.{reply, askedNumber, fillReply, stepNumber};
+ghost use Rattle.compare.specs.Replies.{reply, askedNumber, calledReply, stepNumber};
 use crate::check::refused_at;
 use filler::conditions::StepAnswer;
 use layout::Asked;
@@ -18,7 +18,7 @@ pub fn asked_number(answer: Asked) -> u64
 
 #[no_mangle]
 pub extern "C" fn compare_fill(cpi: usize, batch: &mut [u64]) -> u64
-    ensures { λ r. ⌜ reply r (now (batch .exit)) ≡ fillReply (called cpi (now (batch .entry))) ⌝ }
+    ensures { λ r. ⌜ reply r (now (batch .exit)) ≡ calledReply (called cpi (now (batch .entry))) ⌝ }
 {
     asked_number(filler::fill::fill(cpi, batch))
 }

@@ -8,6 +8,7 @@ pub mod pages;
 pub mod reader;
 pub mod reads;
 pub mod search;
+pub mod storage;
 pub mod tables;
 pub mod words;
 

@@ -4,7 +4,7 @@ ghost use Prim.Native.Nat.{_≤_};
 ghost use lib.ListN.{length};
 ghost use Rattle.witness.specs.Assembly.{assemblyCalled};
 ghost use Rattle.witness.specs.Reading.{reading};
-ghost use Rattle.compare.specs.Replies.{reply, fillReply};
+ghost use Rattle.compare.specs.Replies.{reply, calledReply};
 ghost use Rattle.compare.specs.Records.{recordOf, kindOf, romRowOf, rowReply, readingNumber};
 use crate::fills::asked_number;
 use witness::branch::BranchReading;
@@ -109,7 +109,7 @@ pub extern "C" fn compare_assemble(
     batch: &mut [u64],
 ) -> u64
     ensures { λ r.
-        ⌜ reply r (now (batch .exit)) ≡ fillReply (assemblyCalled cpi (now (cycles .entry)) (now (public .entry)) (now (batch .entry))) ⌝ }
+        ⌜ reply r (now (batch .exit)) ≡ calledReply (assemblyCalled cpi (now (cycles .entry)) (now (public .entry)) (now (batch .entry))) ⌝ }
 {
     asked_number(witness::assembly::assemble_instance_z(cpi, cycles, public, batch))
 }

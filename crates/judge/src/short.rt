@@ -10,7 +10,7 @@ ghost use mathlib.Core.Path.{_≡_};
 ghost use Prim.Native.Nat.{_+_, _*_, _<_};
 ghost use lib.ListN.{length, replicate};
 ghost use Rattle.verdict.specs.Row.{elementAt};
-ghost use Rattle.packed.specs.Packed.{PackCalled, packCalled};
+ghost use Rattle.packed.specs.Packed.{NamedCalled, namedCalled};
 ghost use Rattle.packed.specs.Named.{NamedIn};
 ghost use Rattle.judge.specs.Short.{shortBits, shortYes, ShortIn, ShortRow};
 
@@ -25,7 +25,7 @@ fn element(batch: &[u64], at: usize) -> Gf128
 fn pack(cpi: usize, batch: &[u64], out: &mut [u64]) -> Packing
     requires { ⌜ NamedIn cpi (now batch) (now out) ⌝ }
     ensures { λ r.
-        ⌜ _≡_ {A = PackCalled} (record { answer = r; out = now (out .exit) }) (packCalled cpi (now (batch .entry)) (now (out .entry))) ⌝ }
+        ⌜ _≡_ {A = NamedCalled} (record { answer = r; out = now (out .exit) }) (namedCalled cpi (now (batch .entry)) (now (out .entry))) ⌝ }
 {
     if cpi == 1 {
         return packed::pack_row(batch, out);

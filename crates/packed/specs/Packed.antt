@@ -50,22 +50,26 @@ bitsFrom batch x (suc n) = isBit (elementAt batch x) && bitsFrom batch (suc x) n
 unfoldable pub namedBits : ℕ → List ℕ → Bool
 namedBits cpi batch = bitsFrom batch 0 (960 * cpi) && bitsFrom batch (1024 * cpi) (128 * cpi)
 
+-- question 18, of the number of a packed slice's words
+abbrev pub roomAsked : ℕ → ℕ → Asked
+roomAsked cpi room = cond (eqb room (32 * cpi)) Yes (No (no 18 0))
+
 -- questions 1, 2 and 18: a batch of so many words, and room for so many
 unfoldable pub packAsked : ℕ → ℕ → ℕ → Asked
-packAsked cpi words room = ifYes No (batchAsked cpi words) (cond (eqb room (32 * cpi)) Yes (No (no 18 0)))
+packAsked cpi words room = ifYes No (batchAsked cpi words) (roomAsked cpi room)
 
 -- the call: the answer, and the packed slice afterwards
-pub record PackCalled : Type 0 where
+pub record NamedCalled : Type 0 where
   pub answer : Packing
   pub out : List ℕ
 
 abbrev pub answerOf : Bool → Packing
 answerOf bits = cond bits Bits NotBits
 
-abbrev pub unpacked : List ℕ → Refusal → PackCalled
-unpacked out r = record { answer = Refused r; out = out }
+abbrev pub notPacked : List ℕ → Refusal → NamedCalled
+notPacked out r = record { answer = Refused r; out = out }
 
-unfoldable pub packCalled : ℕ → List ℕ → List ℕ → PackCalled
-packCalled cpi batch out =
-    ifYes (unpacked out) (packAsked cpi (length batch) (length out))
+unfoldable pub namedCalled : ℕ → List ℕ → List ℕ → NamedCalled
+namedCalled cpi batch out =
+    ifYes (notPacked out) (packAsked cpi (length batch) (length out))
     (record { answer = answerOf (namedBits cpi batch); out = packedNamed cpi batch out })

@@ -1,15 +1,21 @@
 // Packing: a cycle's columns as words, 64 columns a word. In cycle order, column c of cycle d is bit c % 64 of word 32 · d + c / 64.
 mod many;
 mod one;
+mod order;
+pub mod storage;
 pub mod sums;
+mod turn;
+mod unpack;
 
 use layout::Asked;
 use layout::Refusal;
 ghost use mathlib.Core.Path.{_≡_};
+ghost use mathlib.Core.Bool.{true};
 ghost use Prim.Native.Nat.{_<_};
 ghost use lib.Dec.{eqb};
 ghost use lib.ListN.{length};
-ghost use Rattle.packed.specs.Packed.{answerOf, packAsked, PackCalled, packCalled};
+ghost use Rattle.layout.specs.Batch.{allowed, batchWords};
+ghost use Rattle.packed.specs.Packed.{answerOf, packAsked, NamedCalled, namedCalled};
 ghost use Rattle.packed.specs.Named.{Named, NamedIn};
 
 // Whether the columns that were packed are bits.
@@ -29,13 +35,20 @@ fn pack_one(batch: &[u64], out: &mut [u64]) -> u64
     low | high
 }
 
-// How far apart the words of two cycles stand comes from the length and not as the number 2: knowing it, the compiler makes
+// How far apart the words of two cycles stand. It comes from the length and not as the number 2: knowing it, the compiler makes
 // vectors of the loop over cycles, and they are slower.
+fn apart(cpi: usize, batch: &[u64]) -> usize
+    requires { ⌜ (allowed cpi ≡ true) × (length (now batch) ≡ batchWords cpi) ⌝ }
+    ensures { λ r. ⌜ r ≡ 2 ⌝ }
+{
+    (batch.len() >> layout::exponent(cpi)) / 4096
+}
+
 fn pack_many(cpi: usize, batch: &[u64], acc: &mut [u64], out: &mut [u64]) -> u64
     requires { ⌜ NamedIn cpi (now batch) (now out) × (length (now acc) ≡ cpi) ⌝ }
     ensures { λ r. ⌜ Named cpi (now (batch .entry)) (now (out .entry)) (now (out .exit)) r ⌝ }
 {
-    let step = (batch.len() >> layout::exponent(cpi)) / 4096;
+    let step = apart(cpi, batch);
     let low = many::pack_words(cpi, batch, step, 0, 15, acc, out);
     let high = many::pack_words(cpi, batch, step, 16, 18, acc, out);
     low | high
@@ -98,7 +111,7 @@ fn ask(cpi: usize, words: usize, room: usize) -> Asked
 // The words of every cycle that hold columns which rows name, in cycle order: questions 1, 2 and 18.
 pub fn pack_named(cpi: usize, batch: &[u64], out: &mut [u64]) -> Packing
     ensures { λ r.
-        ⌜ _≡_ {A = PackCalled} (record { answer = r; out = now (out .exit) }) (packCalled cpi (now (batch .entry)) (now (out .entry))) ⌝ }
+        ⌜ _≡_ {A = NamedCalled} (record { answer = r; out = now (out .exit) }) (namedCalled cpi (now (batch .entry)) (now (out .entry))) ⌝ }
 {
     match ask(cpi, batch.len(), out.len()) {
         Asked::No(r) => Packing::Refused(r),
@@ -109,7 +122,7 @@ pub fn pack_named(cpi: usize, batch: &[u64], out: &mut [u64]) -> Packing
 // The same of a batch of one cycle, whose shape stands apart: who has but one cycle need not carry the others.
 pub fn pack_row(batch: &[u64], out: &mut [u64]) -> Packing
     ensures { λ r.
-        ⌜ _≡_ {A = PackCalled} (record { answer = r; out = now (out .exit) }) (packCalled 1 (now (batch .entry)) (now (out .entry))) ⌝ }
+        ⌜ _≡_ {A = NamedCalled} (record { answer = r; out = now (out .exit) }) (namedCalled 1 (now (batch .entry)) (now (out .entry))) ⌝ }
 {
     match ask(1, batch.len(), out.len()) {
         Asked::No(r) => Packing::Refused(r),

@@ -60,7 +60,7 @@ fn word_columns(cpi: usize, batch: &[u64], step: usize, k: usize, acc: &mut [u64
 }
 
 // Word k of each cycle into its place.
-fn put_words(acc: &[u64], k: usize, out: &mut [u64])
+pub fn put_words(acc: &[u64], k: usize, out: &mut [u64])
     requires { ⌜ (k < 32) × (32 * length (now acc) ≤ length (now out)) ⌝ }
     ensures { λ _. ⌜ Scattered (now (acc .entry)) k (length (now (acc .entry))) (now (out .entry)) (now (out .exit)) ⌝ }
 {

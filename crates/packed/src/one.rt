@@ -1,11 +1,10 @@
-// A batch of one cycle: its columns stand one after the other.
+// Columns that stand one after the other: those of one cycle, and those of a batch in batch order.
 use crate::sums::four;
 ghost use mathlib.Core.Path.{_≡_};
 ghost use mathlib.Core.Logic.{_↔_};
 ghost use Prim.Native.Nat.{_+_, _*_, _<_, _≤_};
 ghost use lib.ListN.{length};
-ghost use Rattle.packed.specs.One.{rowSum, BitsFrom};
-ghost use Rattle.packed.specs.Ranges.{RangeIn, Ranged};
+ghost use Rattle.packed.specs.One.{rowSum, BitsFrom, RowIn, InRow};
 
 // The sum of four columns, whose words stand from word i on.
 fn four_at(batch: &[u64], i: usize) -> u64
@@ -53,10 +52,10 @@ fn seen_at(batch: &[u64], i: usize) -> u64
     (low >> 1) | high
 }
 
-// Words `first` to before `last` of the cycle. The answer is 0 exactly where their columns are bits.
+// Words `first` to before `last`. The answer is 0 exactly where their columns are bits.
 pub fn pack_words(batch: &[u64], first: usize, last: usize, out: &mut [u64]) -> u64
-    requires { ⌜ RangeIn 1 (now batch) first last (now out) ⌝ }
-    ensures { λ r. ⌜ Ranged 1 (now (batch .entry)) first last (now (out .entry)) (now (out .exit)) r ⌝ }
+    requires { ⌜ RowIn (now batch) first last (now out) ⌝ }
+    ensures { λ r. ⌜ InRow (now (batch .entry)) first last (now (out .entry)) (now (out .exit)) r ⌝ }
 {
     let mut bad: u64 = 0;
     let mut k = first;

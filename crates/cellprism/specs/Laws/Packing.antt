@@ -19,9 +19,9 @@ use Rattle.layout.specs.Batch.{allowed, ROW-WORDS, batchAsked}
 use Rattle.layout.specs.Laws.Questions.{yes-batch}
 use Rattle.verdict.specs.Row.{elementAt}
 use Rattle.packed.specs.Packed.{packedNamed, namedBits}
-use Rattle.packed.specs.Ranges.{Ranged}
+use Rattle.packed.specs.One.{InRow}
 use Rattle.packed.specs.Named.{Named}
-use Rattle.packed.specs.Laws.Named.{both-ranges, named-out}
+use Rattle.packed.specs.Laws.Named.{both-rows, named-out}
 use Rattle.judge.specs.Words.{wordsFrom, judgedWords, allJudged}
 use Rattle.judge.specs.Short.{shortBits, shortYes}
 use Rattle.judge.specs.Laws.WordsSame.{judged-agree}
@@ -74,13 +74,13 @@ row-fits bytes h i = go (decLt i ROW-WORDS)
 
 -- ---- the short way
 
-module _ (bytes now after : List ℕ) (low high : ℕ) (h : Ranged 1 (rowOf bytes) 0 15 (replicate 32 0) now low)
-    (g : Ranged 1 (rowOf bytes) 16 18 now after high) (o : same (elementAt (rowOf bytes) 2048) one ≡ true) where
+module _ (bytes now after : List ℕ) (low high : ℕ) (h : InRow (rowOf bytes) 0 15 (replicate 32 0) now low)
+    (g : InRow (rowOf bytes) 16 18 now after high) (o : same (elementAt (rowOf bytes) 2048) one ≡ true) where
   abbrev row : List ℕ
   row = rowOf bytes
 
   named : Named 1 row (replicate 32 0) after (bitOr low high)
-  named = both-ranges 1 row (replicate 32 0) now after low high (omega arith) h g
+  named = both-rows row (replicate 32 0) now after low high h g
 
   left : shortBits 1 row (replicate 32 0) ≡ shortYes 1 row
   left = left-bits 1 row (row-asked bytes) o

@@ -29,7 +29,7 @@ use Rattle.verdict.specs.Row.{elementAt}
 use Rattle.verdict.specs.Check.{Checked, after, asked, judged, checked, houseChecked}
 use Rattle.packed.specs.declared.Packing.{Packing}
 use Rattle.packed.specs.declared.Packing.the-variants.{Bits, NotBits, Refused}
-use Rattle.packed.specs.Packed.{PackCalled, answerOf, packCalled, packedAt, packedNamed, bitsFrom, namedBits}
+use Rattle.packed.specs.Packed.{NamedCalled, answerOf, namedCalled, packedAt, packedNamed, bitsFrom, namedBits}
 use Rattle.packed.specs.Named.{NamedIn}
 use Rattle.packed.specs.Laws.Named.{called-is, bits-each}
 use Rattle.packed.specs.Laws.Seen.{bit-words-are}
@@ -147,7 +147,7 @@ module _ (cpi : ℕ) (batch out : List ℕ) (h : NamedIn cpi batch out) where
 
   -- what the packing answered, and left in the slice
   abbrev Packs : Packing → List ℕ → Type 0
-  Packs a after = _≡_ {A = PackCalled} (record { answer = a; out = after }) (packCalled cpi batch out)
+  Packs a after = _≡_ {A = NamedCalled} (record { answer = a; out = after }) (namedCalled cpi batch out)
 
   pub of-bits : {a : Packing} {after : List ℕ} {x : Gf128} {r : Bool}
       → Packs a after → a ≡ Bits → x ≡ elementAt batch (2048 * cpi + 1) → r ≡ allJudged after x cpi 0 → r ≡ shortBits cpi batch out

@@ -3,13 +3,13 @@
 use borrow.Author.Needs.{needs}
 use Rattle.base.specs.Laws.WaysOut.{told}
 use Rattle.layout.specs.Laws.Questions.{asking}
-use Rattle.packed.specs.Packed.{packCalled}
+use Rattle.packed.specs.Packed.{namedCalled}
 use Rattle.packed.specs.Laws.Named.{asked-yes-in, called-named}
 use Rattle.packed.proofs.pack_named.Statement.{statement}
 use Rattle.packed.proofs.pack_named.Tie as tie
 
 pub pack-named-spec : {M : Type 1} → statement M
-unfolding packCalled
+unfolding namedCalled
 pack-named-spec =
     tie.close
     (tie.spec (λ c κs. search needs) (λ c. search needs) (λ c. search needs) (λ c κs. search (asked-yes-in, told))

@@ -29,12 +29,14 @@ use Rattle.layout.specs.Laws.Exponent.{shift-and-mask}
 use Rattle.verdict.specs.Row.{elementAt}
 use Rattle.packed.specs.declared.Packing.{Packing}
 use Rattle.packed.specs.declared.Packing.the-variants.{Refused}
-use Rattle.packed.specs.Packed.{packAsked, PackCalled, answerOf, unpacked, packCalled, packedWord, namedWord, packedAt, packedNamed, bitsFrom, namedBits}
+use Rattle.packed.specs.Packed.{packAsked, NamedCalled, answerOf, notPacked, namedCalled, packedWord, namedWord, packedAt, packedNamed, bitsFrom, namedBits}
 use Rattle.packed.specs.Seen.{BitAt}
 use Rattle.packed.specs.Columns.{BitsIn}
 use Rattle.packed.specs.Ranges.{RangeIn, Ranged}
+use Rattle.packed.specs.One.{InRow}
 use Rattle.packed.specs.Named.{NamedIn, Named}
 use Rattle.packed.specs.Laws.Seen.{bit-words-are}
+use Rattle.packed.specs.Laws.One.{row-range}
 
 -- ---- the test of a stretch of batch columns, by column and cycle
 
@@ -66,15 +68,16 @@ bits-in cpi batch o n some = (
     sum : (o + n) * cpi ≡ o * cpi + n * cpi
     sum = add-mul o n cpi
 
+-- the length holds two words for each of 4,096 columns of each cycle
+pub two-words : (cpi k : ℕ) (batch : List ℕ) → allowed cpi ≡ true → length batch ≡ batchWords cpi → k ≡ exponentOf cpi
+    → length batch / 2 ^ k / 4096 ≡ 2
+two-words cpi k batch size words e =
+    ap (λ (n : ℕ). n / 4096) (ap (λ (i : ℕ). length batch / 2 ^ i) e ∙ shift-and-mask cpi (length batch) size .0
+    ∙ ap (λ (n : ℕ). n / cpi) words ∙ mul-div-cancel 8192 {n = cpi} (allowed-range cpi size .0))
+
 module _ (cpi : ℕ) (batch out : List ℕ) (h : NamedIn cpi batch out) where
   pub some-cycles : 0 < cpi
   some-cycles = allowed-range cpi (h .size) .0
-
-  -- the length holds two words for each of 4,096 columns of each cycle
-  pub two-words : (k : ℕ) → k ≡ exponentOf cpi → length batch / 2 ^ k / 4096 ≡ 2
-  two-words k e =
-      ap (λ (n : ℕ). n / 4096) (ap (λ (i : ℕ). length batch / 2 ^ i) e ∙ shift-and-mask cpi (length batch) (h .size) .0
-      ∙ ap (λ (n : ℕ). n / cpi) (h .words) ∙ mul-div-cancel 8192 {n = cpi} some-cycles)
 
   pub range-in : (first last : ℕ) (now : List ℕ) → length now ≡ length out → first ≤ last → last ≤ 32 → RangeIn cpi batch first last now
   range-in first last now e l m =
@@ -122,6 +125,13 @@ both-ranges cpi batch before now after bad r some h g =
         ∙ ap (λ (t : Bool). cond t (packedWord cpi batch d k) (getD before (32 * d + k) 0))
         (sym (ap (λ (x : Bool). x && not (eqb k 15)) (le-ltb k 18 (omega arith))))
 
+-- of columns that stand one after the other
+pub both-rows : (batch before now after : List ℕ) (bad r : ℕ) → InRow batch 0 15 before now bad → InRow batch 16 18 now after r
+    → Named 1 batch before after (bitOr bad r)
+both-rows batch before now after bad r h g =
+    both-ranges 1 batch before now after bad r (omega arith) (row-range batch 0 15 before now bad (omega arith) h)
+    (row-range batch 16 18 now after r (omega arith) g)
+
 -- the slice as a whole
 pub named-out : (cpi : ℕ) (batch before after : List ℕ) (bad : ℕ) → length before ≡ 32 * cpi → Named cpi batch before after bad
     → after ≡ packedNamed cpi batch before
@@ -154,19 +164,19 @@ module _ (cpi : ℕ) (batch out : List ℕ) where
       let r = answered (eqb (length out) (32 * cpi)) Yes (refusal 18 0) (y .1) in
       record { size = b .0; words = b .1; room = eqb-true (length out) (32 * cpi) (r .0) }
 
-  in-asked-yes : NamedIn cpi batch out → packAsked cpi (length batch) (length out) ≡ Yes
+  pub in-asked-yes : NamedIn cpi batch out → packAsked cpi (length batch) (length out) ≡ Yes
   unfolding packAsked
   in-asked-yes h =
       sym (passed _ _ _ (eq-eqb (length out) (32 * cpi) (h .room)) ∙ if-yes No _ (yes-batch cpi (length batch) (h .size) (h .words)))
 
   -- any other room is refused with 18, and what is there stays
   pub room-refused : allowed cpi ≡ true → length batch ≡ batchWords cpi → (length out ≡ 32 * cpi → ⊥)
-      → packCalled cpi batch out ≡ record { answer = Refused (record { number = 18; place = 0 }); out = out }
-  unfolding packCalled packAsked
+      → namedCalled cpi batch out ≡ record { answer = Refused (record { number = 18; place = 0 }); out = out }
+  unfolding namedCalled packAsked
   room-refused size words other =
       let first = if-yes No (cond (eqb (length out) (32 * cpi)) Yes (No (refusal 18 0))) (yes-batch cpi (length batch) size words) in
       let asked = refused _ Yes (No (refusal 18 0)) (ne-eqb (length out) (32 * cpi) other) ∙ first in
-      sym (if-no (unpacked out) (record { answer = answerOf (namedBits cpi batch); out = packedNamed cpi batch out }) (sym asked))
+      sym (if-no (notPacked out) (record { answer = answerOf (namedBits cpi batch); out = packedNamed cpi batch out }) (sym asked))
 
   none-bad : {after : List ℕ} (bad : ℕ) → Named cpi batch out after bad → eqb bad 0 ≡ namedBits cpi batch
   none-bad bad n = go (ℕ-discrete bad 0)
@@ -176,17 +186,17 @@ module _ (cpi : ℕ) (batch out : List ℕ) where
       go (no f) = ne-eqb bad 0 f ∙ sym (no-true (namedBits cpi batch) (λ e. f (n .bits .1 e)))
 
   pub called-named : NamedIn cpi batch out → {after : List ℕ} {bad : ℕ} → Named cpi batch out after bad → {p : Packing}
-      → p ≡ answerOf (eqb bad 0) → _≡_ {A = PackCalled} (record { answer = p; out = after }) (packCalled cpi batch out)
-  unfolding packCalled
+      → p ≡ answerOf (eqb bad 0) → _≡_ {A = NamedCalled} (record { answer = p; out = after }) (namedCalled cpi batch out)
+  unfolding namedCalled
   called-named h {after} {bad} n e =
       ap₂ (λ (a : Packing) (o : List ℕ). record { answer = a; out = o }) (e ∙ ap answerOf (none-bad bad n))
-      (named-out cpi batch out after bad (h .room) n) ∙ if-yes (unpacked out) _ (in-asked-yes h)
+      (named-out cpi batch out after bad (h .room) n) ∙ if-yes (notPacked out) _ (in-asked-yes h)
 
   -- what the call says, read back where the questions are passed
   pub called-is : NamedIn cpi batch out → {a : Packing} {after : List ℕ}
-      → _≡_ {A = PackCalled} (record { answer = a; out = after }) (packCalled cpi batch out)
+      → _≡_ {A = NamedCalled} (record { answer = a; out = after }) (namedCalled cpi batch out)
       → (a ≡ answerOf (namedBits cpi batch)) × (after ≡ packedNamed cpi batch out)
-  unfolding packCalled
+  unfolding namedCalled
   called-is h e =
-      let f = e ∙ sym (if-yes (unpacked out) _ (in-asked-yes h)) in
-      (ap (λ (q : PackCalled). q .answer) f, ap (λ (q : PackCalled). q .out) f)
+      let f = e ∙ sym (if-yes (notPacked out) _ (in-asked-yes h)) in
+      (ap (λ (q : NamedCalled). q .answer) f, ap (λ (q : NamedCalled). q .out) f)

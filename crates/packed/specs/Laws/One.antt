@@ -1,21 +1,23 @@
--- One cycle packed, four columns at a turn.
+-- Columns one after the other packed, four at a turn.
 -- Assumes nothing.
-use mathlib.Core.Path.{_≡_, ap, ap₂, subst, _∙_}
+use mathlib.Core.Path.{_≡_, refl, sym, ap, ap₂, subst, _∙_}
 use mathlib.Core.Logic.{_↔_}
 use mathlib.Core.List.{List}
-use Prim.Native.Nat.{ℕ, zero, suc, _+_, _*_, _-_, _/_, _%_, _^_, _≤_, _<_}
+use Prim.Native.Nat.{ℕ, _+_, _*_, _-_, _/_, _%_, _^_, _≤_, _<_}
+use native.Mathlib.Decide.{ℕ-discrete}
 use native.Mathlib.Omega.{arith}
 use lib.Bits.{bitOr}
 use lib.ListN.{length, getD, set, length-set}
 use lib.Seq.{getD-set-same, getD-set-other}
+use Rattle.base.specs.Laws.Compared.{or-none}
 use Rattle.packed.specs.Packed.{stacked, lowAt, packedWord}
 use Rattle.packed.specs.Stacked.{pushedFour}
 use Rattle.packed.specs.Seen.{BitAt}
 use Rattle.packed.specs.Columns.{BitsIn}
 use Rattle.packed.specs.Ranges.{Ranged}
-use Rattle.packed.specs.One.{lowFrom, rowSum, BitsFrom}
+use Rattle.packed.specs.One.{lowFrom, rowSum, BitsFrom, InRow}
 use Rattle.packed.specs.Laws.Stacked.{again, alone, four-parts, stacked-same}
-use Rattle.packed.specs.Laws.Ranges.{more-range}
+use Rattle.packed.specs.Laws.Columns.{bits-joined}
 use Rattle.packed.specs.Laws.Seen.{Seen, seen-next, seen-bits}
 
 -- what four parts are: each is m columns on, and is right modulo 2^64
@@ -83,18 +85,67 @@ bits-are b k = (
   λ h x l. subst (BitAt b) (omega arith) (h (64 * k + x) 0 (omega arith) (omega arith) (omega arith)),
 )
 
-pub next-row : (b : List ℕ) (first k last : ℕ) (before now : List ℕ) (bad r : ℕ) {w : ℕ} → first ≤ k → k < last → last ≤ 32
-    → length before ≡ 32 → Ranged 1 b first k before now bad
-    → w ≡ rowSum b (128 * k) 64 → ((r ≡ 0) ↔ BitsFrom b (128 * k)) → Ranged 1 b first (k + 1) before (set now k w) (bitOr bad r)
-next-row b first k last before now bad r {w} o l top s h e t =
-    more-range 1 b first k before now (set now k w) bad r o (omega arith) h (length-set now k w) here
-    other
-    (λ z. bits-are b k .0 (t .0 z), λ g. t .1 (bits-are b k .1 g))
-  where
-    here : (d : ℕ) → d < 1 → getD (set now k w) (32 * d + k) 0 ≡ packedWord 1 b d k
-    here zero m =
-        ap (λ (x : ℕ). getD (set now k w) x 0) (omega arith) ∙ getD-set-same now k w 0 (omega (arith, h .lengths, s)) ∙ e ∙ word-is b k
-    here (suc d) m = absurd (omega arith)
+-- ---- word after word
 
-    other : (d j : ℕ) → j < 32 → (j ≡ k → ⊥) → getD (set now k w) (32 * d + j) 0 ≡ getD now (32 * d + j) 0
-    other d j m f = getD-set-other now k (32 * d + j) w 0 (λ q. f (omega arith))
+pub no-row : (b : List ℕ) (first : ℕ) (out : List ℕ) → InRow b first first out out 0
+no-row b first out =
+    record {
+      lengths = refl;
+      here = λ j l m. absurd (omega arith);
+      left = λ j l. refl;
+      right = λ j l. refl;
+      bits = (λ _ c d l m _. absurd (omega arith), λ _. refl);
+    }
+
+pub next-row : (b : List ℕ) (first k last : ℕ) (before now : List ℕ) (bad r : ℕ) {w : ℕ} → first ≤ k → k < last
+    → last ≤ length before → InRow b first k before now bad
+    → w ≡ rowSum b (128 * k) 64 → ((r ≡ 0) ↔ BitsFrom b (128 * k)) → InRow b first (k + 1) before (set now k w) (bitOr bad r)
+next-row b first k last before now bad r {w} o l s h e t =
+    record {
+      lengths = length-set now k w ∙ h .lengths;
+      here = λ j m n. here j m n (ℕ-discrete j k);
+      left = λ j m. getD-set-other now k j w 0 (λ q. omega arith) ∙ h .left j m;
+      right = λ j m. getD-set-other now k j w 0 (λ q. omega arith) ∙ h .right j (omega arith);
+      bits = (
+        λ z. let p = or-none bad r .0 z in subst (BitsIn 1 b (64 * first)) end (both .0 (h .bits .0 (p .0), bits-are b k .0 (t .0 (p .1)))),
+        λ g.
+            let p = both .1 (subst (BitsIn 1 b (64 * first)) (sym end) g) in
+            or-none bad r .1 (h .bits .1 (p .0), t .1 (bits-are b k .1 (p .1))),
+      );
+    }
+  where
+    both : (BitsIn 1 b (64 * first) (64 * k) × BitsIn 1 b (64 * k) (64 * k + 64)) ↔ BitsIn 1 b (64 * first) (64 * k + 64)
+    both = bits-joined 1 b (64 * first) (64 * k) (64 * k + 64) (omega arith) (omega arith)
+
+    end : 64 * k + 64 ≡ 64 * (k + 1)
+    end = omega arith
+
+    here : (j : ℕ) → first ≤ j → j < k + 1 → Dec (j ≡ k) → getD (set now k w) j 0 ≡ packedWord 1 b 0 j
+    here j m n (yes q) =
+        ap (λ (x : ℕ). getD (set now k w) x 0) q ∙ getD-set-same now k w 0 (omega (arith, h .lengths)) ∙ e ∙ word-is b k
+        ∙ ap (packedWord 1 b 0) (sym q)
+    here j m n (no f) = getD-set-other now k j w 0 f ∙ h .here j m (omega arith)
+
+-- the loop's end: all words to `last` are passed
+pub row-ends : (b : List ℕ) (first k last : ℕ) (before after : List ℕ) (bad : ℕ) → k ≤ last → last ≤ k → InRow b first k before after bad
+    → InRow b first last before after bad
+row-ends b first k last before after bad l m h =
+    let e : k ≡ last = omega arith in subst (λ (n : ℕ). InRow b first n before after bad) e h
+
+-- words of one cycle
+pub row-range : (b : List ℕ) (first last : ℕ) (before after : List ℕ) (bad : ℕ) → last ≤ 32 → InRow b first last before after bad
+    → Ranged 1 b first last before after bad
+row-range b first last before after bad top h =
+    record {
+      lengths = h .lengths;
+      here = λ d j l m n. let e : d ≡ 0 = omega arith in
+          ap (λ (x : ℕ). getD after (32 * x + j) 0) e ∙ ap (λ (x : ℕ). getD after x 0) (omega arith) ∙ h .here j m n
+          ∙ ap (λ (x : ℕ). packedWord 1 b x j) (sym e);
+      left = λ d j l m. left d j l m (ℕ-discrete d 0);
+      right = λ d j l m. h .right (32 * d + j) (omega arith);
+      bits = h .bits;
+    }
+  where
+    left : (d j : ℕ) → j < 32 → j < first → Dec (d ≡ 0) → getD after (32 * d + j) 0 ≡ getD before (32 * d + j) 0
+    left d j l m (yes e) = h .left (32 * d + j) (omega arith)
+    left d j l m (no f) = h .right (32 * d + j) (omega arith)

@@ -3,7 +3,7 @@
 use mathlib.Core.Path.{_≡_, refl, sym, ap, ap₂, _∙_}
 use mathlib.Core.Bool.{Bool, true, cond, not, false≢true}
 use mathlib.Core.List.{List}
-use Prim.Native.Nat.{ℕ, _+_, _*_, _/_, _%_, _^_, _<_}
+use Prim.Native.Nat.{ℕ, _+_, _*_, _/_, _%_, _^_, _≤_, _<_}
 use native.Mathlib.Decide.{decLt}
 use native.Mathlib.Nat.{mod-eq-of-lt, zero-add}
 use native.Mathlib.Omega.{arith}
@@ -11,12 +11,12 @@ use borrow.Author.Tests.{ltb-true, eq-eqb}
 use lib.Dec.{eqb, ltb}
 use lib.ListN.{length, getD}
 use Rattle.base.specs.Bits.{digit, word, bitAt}
-use Rattle.base.specs.Laws.Values.{val-lt}
+use Rattle.base.specs.Laws.Values.{val-lt, val-same}
 use Rattle.base.specs.Laws.Tests.{both}
 use Rattle.base.specs.Laws.From.{getD-from}
 use Rattle.base.specs.Laws.Bits.{word-bit}
 use Rattle.field.specs.Gf.Laws.{low-words}
-use Rattle.verdict.specs.Row.{bitsOf}
+use Rattle.verdict.specs.Row.{elementAt, asBit, bitsOf}
 use Rattle.verdict.specs.Laws.Row.{bit-read}
 use Rattle.packed.specs.Packed.{lowAt, packedWord, namedWord, packedAt, packedNamed, bitsFrom, namedBits}
 use Rattle.packed.specs.Seen.{BitAt}
@@ -41,6 +41,19 @@ packed-at cpi batch out room d k l e =
     ∙ ap₂ (λ (x j : ℕ). cond (namedWord j) (packedWord cpi batch x j) (getD out (32 * d + k) 0)) quotient rest
     ∙ ap (λ (t : Bool). cond t (packedWord cpi batch d k) (getD out (32 * d + k) 0)) e
 
+-- of 64 columns that are bits, the word that they spell
+module _ (cpi : ℕ) (batch : List ℕ) (d k : ℕ) (bits : (c : ℕ) → 64 * k ≤ c → c < 64 * k + 64 → BitAt batch (2 * (c * cpi + d))) where
+  pub word-bits : packedWord cpi batch d k ≡ word (λ c. asBit (elementAt batch (c * cpi + d))) (64 * k) 64
+  unfolding packedWord
+  word-bits =
+      ap (λ (n : ℕ). n % 2 ^ 64)
+      (stacked-word (lowAt cpi batch d) (λ c. asBit (elementAt batch (c * cpi + d))) (64 * k) 64
+      (λ c p q. as-digit (lowAt cpi batch d c) (bits c p q .0) ∙ ap (λ (n : ℕ). digit (eqb n 1)) (sym (low-words _ _))))
+      ∙ mod-eq-of-lt (val-lt 64 (λ i. asBit (elementAt batch ((64 * k + i) * cpi + d))))
+
+  pub packed-bits : k < 32 → packedWord cpi batch d k ≡ word (bitsOf cpi batch d) (64 * k) 64
+  packed-bits l = word-bits ∙ val-same _ _ 64 (λ i m. bit-read cpi d (64 * k + i) batch (omega arith) refl refl refl)
+
 module _ (cpi : ℕ) (some : 0 < cpi) (batch : List ℕ) (bits : namedBits cpi batch ≡ true) where
   -- every column of a named word is a bit, in every cycle
   pub column-bit : (c d : ℕ) → namedWord (c / 64) ≡ true → d < cpi → BitAt batch (2 * (c * cpi + d))
@@ -53,19 +66,11 @@ module _ (cpi : ℕ) (some : 0 < cpi) (batch : List ℕ) (bits : namedBits cpi b
       ]
 
   module _ (d : ℕ) (l : d < cpi) where
-    low-digit : (c : ℕ) → namedWord (c / 64) ≡ true → c < 2048 → lowAt cpi batch d c ≡ digit (bitsOf cpi batch d c)
-    low-digit c e m =
-        as-digit (lowAt cpi batch d c) (column-bit c d e l .0)
-        ∙ ap (λ (t : Bool). digit t) (bit-read cpi d c batch m refl refl (sym (low-words _ _)))
-
     pub packed-word : (k : ℕ) → namedWord k ≡ true → packedWord cpi batch d k ≡ word (bitsOf cpi batch d) (64 * k) 64
-    unfolding packedWord
     packed-word k e =
         let r = named-range k e in
-        ap (λ (n : ℕ). n % 2 ^ 64)
-        (stacked-word (lowAt cpi batch d) (bitsOf cpi batch d) (64 * k) 64
-        (λ x p q. let same : x / 64 ≡ k = omega arith in low-digit x (ap namedWord same ∙ e) (omega (arith, r .0))))
-        ∙ mod-eq-of-lt (val-lt 64 (λ i. bitsOf cpi batch d (64 * k + i)))
+        packed-bits cpi batch d k (λ c p q. let same : c / 64 ≡ k = omega arith in column-bit c d (ap namedWord same ∙ e) l)
+        (omega (arith, r .0))
 
     -- by columns, in the packed slice
     pub packed-column : (out : List ℕ) → length out ≡ 32 * cpi → (c : ℕ) → namedWord (c / 64) ≡ true

@@ -7,7 +7,7 @@ use Rattle.base.specs.Laws.Tests.{passed, refused}
 use Rattle.witness.specs.declared.records.CycleRecord.{CycleRecord}
 use Rattle.witness.specs.declared.records.RomRow.{RomRow}
 use Rattle.witness.specs.Row.{rowCalled}
-use Rattle.compare.specs.Replies.{reply, fillReply}
+use Rattle.compare.specs.Replies.{reply, calledReply}
 use Rattle.compare.proofs.makers.compare_witness_row.Statement.{statement}
 use Rattle.compare.proofs.makers.compare_witness_row.Tie as tie
 
@@ -21,8 +21,8 @@ returns-3 : tie.Need-returns-3
 returns-3 c =
     let made = c .before .before .before in let rom = made .before .before in let cycle = rom .before in let t = cycle .before in
     let a = t .before .before .before .before .before .before .args in
-    ap₂ reply (c .asked-number .ensures) refl ∙ ap fillReply (made .witness-row .ensures)
-    ∙ ap₂ (λ (r : CycleRecord) (m : RomRow). fillReply (rowCalled r m (now (a .public)) (now (a .row)))) (cycle .record-of .ensures)
+    ap₂ reply (c .asked-number .ensures) refl ∙ ap calledReply (made .witness-row .ensures)
+    ∙ ap₂ (λ (r : CycleRecord) (m : RomRow). calledReply (rowCalled r m (now (a .public)) (now (a .row)))) (cycle .record-of .ensures)
     (rom .rom-row-of .ensures)
     ∙ refused _ _ _ (le-ltb _ _ (t .if2 .left)) ∙ refused _ _ _ (le-ltb _ _ (t .before .if1 .left))
 

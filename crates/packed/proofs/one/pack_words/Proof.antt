@@ -2,15 +2,14 @@
 -- Assumes nothing.
 use Prim.Native.Nat.{_-_, _≤_}
 use native.Mathlib.Omega.{arith}
-use Rattle.packed.specs.Ranges.{Ranged}
-use Rattle.packed.specs.Laws.Ranges.{no-range, range-ends}
-use Rattle.packed.specs.Laws.One.{next-row}
+use Rattle.packed.specs.One.{InRow}
+use Rattle.packed.specs.Laws.One.{no-row, next-row, row-ends}
 use borrow.Author.Needs.{needs}
 use Rattle.packed.proofs.one.pack_words.Statement.{statement}
 use Rattle.packed.proofs.one.pack_words.Tie as tie
 
 abbrev Inv-loop : tie.InvT-loop
-Inv-loop batch first last out₀ bad₀ k₀ out bad k = (first ≤ k) × ((k ≤ last) × Ranged 1 batch first k out₀ out bad)
+Inv-loop batch first last out₀ bad₀ k₀ out bad k = (first ≤ k) × ((k ≤ last) × InRow batch first k out₀ out bad)
 
 abbrev μ-loop : tie.MeasureT-loop
 μ-loop batch first last out₀ bad₀ k₀ out bad k = last - k
@@ -18,6 +17,6 @@ abbrev μ-loop : tie.MeasureT-loop
 pub pack-words-spec : {M : Type 1} → statement M
 pack-words-spec =
     tie.close
-    (tie.spec Inv-loop μ-loop (λ c. (search needs, (search needs, no-range _ _ _ _))) (λ c. search needs) (λ c κs. search needs)
+    (tie.spec Inv-loop μ-loop (λ c. (search needs, (search needs, no-row _ _ _))) (λ c. search needs) (λ c κs. search needs)
     (λ c. search needs) (λ c κs. search needs) (λ c. search needs) (λ c. search needs) (λ c. search needs) (λ c. search needs)
-    (λ c. (omega arith, (omega arith, search next-row))) (λ c. c .before .loop .inv .1 .1 .lengths) (λ c. search range-ends))
+    (λ c. (omega arith, (omega arith, search next-row))) (λ c. c .before .loop .inv .1 .1 .lengths) (λ c. search row-ends))

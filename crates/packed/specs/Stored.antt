@@ -1,0 +1,30 @@
+-- A batch packed in one of its two orders: the words, and the call that hands them over.
+-- Assumes nothing.
+use mathlib.Core.Path.{_≡_}
+use mathlib.Core.Logic.{_↔_}
+use mathlib.Core.Bool.{Bool, true, cond}
+use mathlib.Core.List.{List}
+use Prim.Native.Nat.{ℕ, _*_}
+use lib.ListN.{length}
+use Rattle.layout.specs.Questions.{Called, after}
+use Rattle.packed.specs.declared.storage.Order.{Order}
+use Rattle.packed.specs.declared.storage.Order.the-variants.{Batch, Cycles}
+use Rattle.packed.specs.Storage.{packed, packedByCycle, lowerBits, storeAsked}
+
+abbrev pub packedIn : Order → ℕ → List ℕ → List ℕ
+packedIn Batch cpi batch = packed cpi batch
+packedIn Cycles cpi batch = packedByCycle cpi batch
+
+-- words of their own; of columns that are no bits they are anything
+pub record Made (order : Order) (cpi : ℕ) (batch made : List ℕ) (bad : ℕ) : Type 0 where
+  pub lengths : length made ≡ 32 * cpi
+  pub bits : (bad ≡ 0) ↔ (lowerBits cpi batch ≡ true)
+  pub words : lowerBits cpi batch ≡ true → made ≡ packedIn order cpi batch
+
+-- handed over where the columns are bits
+pub record Handed (order : Order) (cpi : ℕ) (batch before after : List ℕ) (answer : Bool) : Type 0 where
+  pub answered : answer ≡ lowerBits cpi batch
+  pub out : after ≡ cond (lowerBits cpi batch) (packedIn order cpi batch) before
+
+abbrev pub storeCalled : Order → ℕ → List ℕ → List ℕ → Called
+storeCalled order cpi batch out = after (storeAsked cpi batch (length out)) (packedIn order cpi batch) out
