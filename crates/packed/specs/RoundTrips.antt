@@ -5,11 +5,12 @@ use mathlib.Core.Path.{_≡_}
 use mathlib.Core.Bool.{true}
 use mathlib.Core.List.{List}
 use Prim.Native.Nat.{ℕ, _+_, _*_, _≤_, _<_}
-use lib.ListN.{length}
+use lib.ListN.{length, getD}
 use Rattle.layout.specs.declared.Asked.the-variants.{Yes}
 use Rattle.layout.specs.Questions.{Called}
 use Rattle.layout.specs.Batch.{batchWords}
 use Rattle.verdict.specs.Row.{elementAt, bitsOf}
+use Rattle.packed.specs.Packed.{namedWord, packedNamed, namedBits}
 use Rattle.packed.specs.Storage.{bitIn, Fit, packed, unpacked, byCycle, byBatch, packedByCycle, lowerBits, packCalled, packCyclesCalled, unpackCalled, toCyclesCalled, toBatchCalled}
 
 -- a call that was answered with yes, and what it left
@@ -35,6 +36,9 @@ pub record Kept (cpi : ℕ) : Type 0 where
   -- packed straight into cycle order: the same as packed and then rearranged, and column c of cycle d is bit 2,048 · d + c
   pub straight : (batch : List ℕ) → packedByCycle cpi batch ≡ byCycle cpi (packed cpi batch)
   pub column-at : (batch : List ℕ) (c d : ℕ) → c < 2048 → d < cpi → bitIn (packedByCycle cpi batch) (2048 * d + c) ≡ bitsOf cpi batch d c
+  -- and the words that the short way of the check packs are words of it
+  pub named : (batch out : List ℕ) → length out ≡ 32 * cpi → namedBits cpi batch ≡ true → (d k : ℕ) → d < cpi → namedWord k ≡ true
+      → getD (packedNamed cpi batch out) (32 * d + k) 0 ≡ getD (packedByCycle cpi batch) (32 * d + k) 0
 
 -- the same of calls, whatever was lent: after one that said yes, the next says yes, too
 pub record CallsKept (cpi : ℕ) : Type 0 where

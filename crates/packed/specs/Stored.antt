@@ -1,10 +1,9 @@
--- A batch packed in one of its two orders: the words, and the call that hands them over.
+-- A batch packed in one of its two orders, handed over or not, and the call.
 -- Assumes nothing.
 use mathlib.Core.Path.{_≡_}
-use mathlib.Core.Logic.{_↔_}
-use mathlib.Core.Bool.{Bool, true, cond}
+use mathlib.Core.Bool.{Bool, cond}
 use mathlib.Core.List.{List}
-use Prim.Native.Nat.{ℕ, _*_}
+use Prim.Native.Nat.{ℕ}
 use lib.ListN.{length}
 use Rattle.layout.specs.Questions.{Called, after}
 use Rattle.packed.specs.declared.storage.Order.{Order}
@@ -14,12 +13,6 @@ use Rattle.packed.specs.Storage.{packed, packedByCycle, lowerBits, store
 abbrev pub packedIn : Order → ℕ → List ℕ → List ℕ
 packedIn Batch cpi batch = packed cpi batch
 packedIn Cycles cpi batch = packedByCycle cpi batch
-
--- words of their own; of columns that are no bits they are anything
-pub record Made (order : Order) (cpi : ℕ) (batch made : List ℕ) (bad : ℕ) : Type 0 where
-  pub lengths : length made ≡ 32 * cpi
-  pub bits : (bad ≡ 0) ↔ (lowerBits cpi batch ≡ true)
-  pub words : lowerBits cpi batch ≡ true → made ≡ packedIn order cpi batch
 
 -- handed over where the columns are bits
 pub record Handed (order : Order) (cpi : ℕ) (batch before after : List ℕ) (answer : Bool) : Type 0 where

@@ -10,11 +10,9 @@ mod unpack;
 use layout::Asked;
 use layout::Refusal;
 ghost use mathlib.Core.Path.{_≡_};
-ghost use mathlib.Core.Bool.{true};
 ghost use Prim.Native.Nat.{_<_};
 ghost use lib.Dec.{eqb};
 ghost use lib.ListN.{length};
-ghost use Rattle.layout.specs.Batch.{allowed, batchWords};
 ghost use Rattle.packed.specs.Packed.{answerOf, packAsked, NamedCalled, namedCalled};
 ghost use Rattle.packed.specs.Named.{Named, NamedIn};
 
@@ -35,20 +33,13 @@ fn pack_one(batch: &[u64], out: &mut [u64]) -> u64
     low | high
 }
 
-// How far apart the words of two cycles stand. It comes from the length and not as the number 2: knowing it, the compiler makes
+// How far apart the words of two cycles stand comes from the length and not as the number 2: knowing it, the compiler makes
 // vectors of the loop over cycles, and they are slower.
-fn apart(cpi: usize, batch: &[u64]) -> usize
-    requires { ⌜ (allowed cpi ≡ true) × (length (now batch) ≡ batchWords cpi) ⌝ }
-    ensures { λ r. ⌜ r ≡ 2 ⌝ }
-{
-    (batch.len() >> layout::exponent(cpi)) / 4096
-}
-
 fn pack_many(cpi: usize, batch: &[u64], acc: &mut [u64], out: &mut [u64]) -> u64
     requires { ⌜ NamedIn cpi (now batch) (now out) × (length (now acc) ≡ cpi) ⌝ }
     ensures { λ r. ⌜ Named cpi (now (batch .entry)) (now (out .entry)) (now (out .exit)) r ⌝ }
 {
-    let step = apart(cpi, batch);
+    let step = (batch.len() >> layout::exponent(cpi)) / 4096;
     let low = many::pack_words(cpi, batch, step, 0, 15, acc, out);
     let high = many::pack_words(cpi, batch, step, 16, 18, acc, out);
     low | high

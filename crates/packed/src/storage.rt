@@ -1,8 +1,6 @@
 // Packed storage of a batch: one bit a column below one_col, 64 to a word, in batch order or in cycle order.
-use crate::apart;
 use crate::ask;
-use crate::many;
-use crate::one;
+use crate::one::pack_words;
 use crate::order::batch_from_cycles;
 use crate::order::cycles_from_batch;
 use crate::unpack::lay_words;
@@ -13,46 +11,25 @@ ghost use lib.ListN.{length};
 ghost use Rattle.layout.specs.Questions.{Called};
 ghost use Rattle.packed.specs.Storage.{packCalled, packCyclesCalled, unpackCalled, orderAsked, toCyclesCalled, toBatchCalled};
 ghost use Rattle.packed.specs.Named.{NamedIn};
-ghost use Rattle.packed.specs.Stored.{Made, Handed, storeCalled};
+ghost use Rattle.packed.specs.Stored.{Handed, storeCalled};
 
 enum Order {
     Batch,
     Cycles,
 }
 
-// All words of a batch. The answer is 0 exactly where the columns below one_col are bits.
-fn make(order: Order, cpi: usize, batch: &[u64], acc: &mut [u64], made: &mut [u64]) -> u64
-    requires { ⌜ NamedIn cpi (now batch) (now made) × (length (now acc) ≡ cpi) ⌝ }
-    ensures { λ r. ⌜ Made order cpi (now (batch .entry)) (now (made .exit)) r ⌝ }
-{
-    match order {
-        Order::Batch => one::pack_words(batch, 0, 32 * cpi, made),
-        Order::Cycles => {
-            if cpi == 1 {
-                return one::pack_words(batch, 0, 32, made);
-            }
-            let step = apart(cpi, batch);
-            many::pack_words(cpi, batch, step, 0, 32, acc, made)
-        }
-    }
-}
-
-// A column that is no bit is refused, and `out` must then be as it came: the words are made elsewhere first.
-fn hand_over(
-    order: Order,
-    cpi: usize,
-    batch: &[u64],
-    acc: &mut [u64],
-    made: &mut [u64],
-    out: &mut [u64],
-) -> bool
-    requires { ⌜ NamedIn cpi (now batch) (now made) × ((length (now acc) ≡ cpi) × (length (now out) ≡ 32 * cpi)) ⌝ }
+// A column that is no bit is refused, and `out` must then be as it came: the words are made apart from it, in batch order.
+fn hand_over(order: Order, cpi: usize, batch: &[u64], made: &mut [u64], out: &mut [u64]) -> bool
+    requires { ⌜ NamedIn cpi (now batch) (now made) × (length (now out) ≡ 32 * cpi) ⌝ }
     ensures { λ r. ⌜ Handed order cpi (now (batch .entry)) (now (out .entry)) (now (out .exit)) r ⌝ }
 {
-    if make(order, cpi, batch, acc, made) != 0 {
+    if pack_words(batch, 0, 32 * cpi, made) != 0 {
         return false;
     }
-    base::copy_at(made, out, 0);
+    match order {
+        Order::Batch => base::copy_at(made, out, 0),
+        Order::Cycles => cycles_from_batch(cpi, made, out),
+    }
     true
 }
 
@@ -60,32 +37,16 @@ fn hand_small(order: Order, cpi: usize, batch: &[u64], out: &mut [u64]) -> bool
     requires { ⌜ NamedIn cpi (now batch) (now out) × (cpi < 17) ⌝ }
     ensures { λ r. ⌜ Handed order cpi (now (batch .entry)) (now (out .entry)) (now (out .exit)) r ⌝ }
 {
-    let mut acc = [0u64; 16];
     let mut made = [0u64; 512];
-    hand_over(
-        order,
-        cpi,
-        batch,
-        &mut acc[..cpi],
-        &mut made[..32 * cpi],
-        out,
-    )
+    hand_over(order, cpi, batch, &mut made[..32 * cpi], out)
 }
 
 fn hand_large(order: Order, cpi: usize, batch: &[u64], out: &mut [u64]) -> bool
     requires { ⌜ NamedIn cpi (now batch) (now out) ⌝ }
     ensures { λ r. ⌜ Handed order cpi (now (batch .entry)) (now (out .entry)) (now (out .exit)) r ⌝ }
 {
-    let mut acc = [0u64; 256];
     let mut made = [0u64; 8192];
-    hand_over(
-        order,
-        cpi,
-        batch,
-        &mut acc[..cpi],
-        &mut made[..32 * cpi],
-        out,
-    )
+    hand_over(order, cpi, batch, &mut made[..32 * cpi], out)
 }
 
 fn hand(order: Order, cpi: usize, batch: &[u64], out: &mut [u64]) -> bool

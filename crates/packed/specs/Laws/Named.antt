@@ -68,16 +68,15 @@ bits-in cpi batch o n some = (
     sum : (o + n) * cpi ≡ o * cpi + n * cpi
     sum = add-mul o n cpi
 
--- the length holds two words for each of 4,096 columns of each cycle
-pub two-words : (cpi k : ℕ) (batch : List ℕ) → allowed cpi ≡ true → length batch ≡ batchWords cpi → k ≡ exponentOf cpi
-    → length batch / 2 ^ k / 4096 ≡ 2
-two-words cpi k batch size words e =
-    ap (λ (n : ℕ). n / 4096) (ap (λ (i : ℕ). length batch / 2 ^ i) e ∙ shift-and-mask cpi (length batch) size .0
-    ∙ ap (λ (n : ℕ). n / cpi) words ∙ mul-div-cancel 8192 {n = cpi} (allowed-range cpi size .0))
-
 module _ (cpi : ℕ) (batch out : List ℕ) (h : NamedIn cpi batch out) where
   pub some-cycles : 0 < cpi
   some-cycles = allowed-range cpi (h .size) .0
+
+  -- the length holds two words for each of 4,096 columns of each cycle
+  pub two-words : (k : ℕ) → k ≡ exponentOf cpi → length batch / 2 ^ k / 4096 ≡ 2
+  two-words k e =
+      ap (λ (n : ℕ). n / 4096) (ap (λ (i : ℕ). length batch / 2 ^ i) e ∙ shift-and-mask cpi (length batch) (h .size) .0
+      ∙ ap (λ (n : ℕ). n / cpi) (h .words) ∙ mul-div-cancel 8192 {n = cpi} some-cycles)
 
   pub range-in : (first last : ℕ) (now : List ℕ) → length now ≡ length out → first ≤ last → last ≤ 32 → RangeIn cpi batch first last now
   range-in first last now e l m =

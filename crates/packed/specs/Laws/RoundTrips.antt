@@ -12,18 +12,21 @@ use lib.Dec.{eqb}
 use lib.ListN.{length, getD, List·getD-eq-default}
 use Rattle.base.specs.Bits.{digit}
 use Rattle.base.specs.Laws.Tests.{passed, refused}
-use Rattle.base.specs.Laws.Values.{digit-lt}
+use Rattle.base.specs.Laws.Values.{digit-lt, val-same}
 use Rattle.base.specs.Laws.From.{length-from, getD-from}
 use Rattle.field.specs.Gf.{ofWords}
 use Rattle.field.specs.Gf.Laws.{low-words}
 use Rattle.layout.specs.Batch.{allowed, batchWords}
+use Rattle.layout.specs.Laws.Sizes.{allowed-range}
 use Rattle.verdict.specs.Row.{elementAt, asBit, cycleOf, bitsOf}
+use Rattle.packed.specs.Packed.{namedWord, packedNamed, namedBits}
 use Rattle.packed.specs.Storage.{bitIn, Fit, packed, unpackedWord, unpacked, inBatch, inCycles, byCycle, byBatch, packedByCycle, lowerBits}
 use Rattle.packed.specs.RoundTrips.{Joins, Kept}
-use Rattle.packed.specs.Laws.InWords.{with-bit, same-words, of-bits}
+use Rattle.packed.specs.Laws.InWords.{with-word, with-bit, same-words, of-bits}
 use Rattle.packed.specs.Laws.Places.{in-batch-lt, in-cycles-lt, cycles-of-batch, batch-of-cycles}
 use Rattle.packed.specs.Laws.Seen.{as-digit}
 use Rattle.packed.specs.Laws.Named.{bits-each}
+use Rattle.packed.specs.Laws.Words.{named-range, packed-at, packed-word}
 
 -- ---- bit x of what is packed or rearranged
 
@@ -111,6 +114,15 @@ module _ (cpi : ℕ) (ok : allowed cpi ≡ true) where
       (λ x l. ap (λ (n : ℕ). eqb n 1) (low-words _ _ ∙ low-at cpi words batch s x (omega arith)) ∙ digit-bit (bitIn words x))
       ∙ of-bits words (32 * cpi) e h
 
+  named-words : (batch out : List ℕ) → length out ≡ 32 * cpi → namedBits cpi batch ≡ true → (d k : ℕ) → d < cpi → namedWord k ≡ true
+      → getD (packedNamed cpi batch out) (32 * d + k) 0 ≡ getD (packedByCycle cpi batch) (32 * d + k) 0
+  unfolding packedByCycle
+  named-words batch out room b d k l e =
+      let inside = named-range k e .0 in
+      packed-at cpi batch out room d k l e ∙ packed-word cpi (allowed-range cpi ok .0) batch b d l k e
+      ∙ val-same _ _ 64 (λ i m. ap₂ (bitsOf cpi batch) (omega arith) (omega arith))
+      ∙ sym (with-word (λ (y : ℕ). bitsOf cpi batch (y / 2048) (y % 2048)) (32 * cpi) (32 * d + k) (omega arith))
+
   pub kept : Kept cpi
   unfolding byBatch byCycle packedByCycle bitsOf cycleOf
   kept =
@@ -132,4 +144,5 @@ module _ (cpi : ℕ) (ok : allowed cpi ≡ true) where
         column-at = λ batch c d hc hd.
             with-bit (λ (y : ℕ). bitsOf cpi batch (y / 2048) (y % 2048)) (32 * cpi) (2048 * d + c) (omega arith)
             ∙ ap₂ (bitsOf cpi batch) (omega arith) (omega arith);
+        named = named-words;
       }

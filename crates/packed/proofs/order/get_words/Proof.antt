@@ -16,10 +16,12 @@ Inv-loop words k acc₀ d₀ acc d = Written (λ (i : ℕ). getD words (32 * i +
 abbrev μ-loop : tie.MeasureT-loop
 μ-loop words k acc₀ d₀ acc d = length acc₀ - d
 
+loop-again : tie.Need-loop-again Inv-loop μ-loop
+loop-again c = written-more _ _ _ _ _ _ refl (search needs) (search needs) (c .before .before .loop .inv)
+
 pub get-words-spec : {M : Type 1} → statement M
 get-words-spec =
     tie.close
     (tie.spec Inv-loop μ-loop (λ c. written-none _ _ _) (λ c. search needs) (λ c. search needs) (λ c. search needs)
-    (λ c. search needs) (λ c. search needs) (λ c. search needs) (λ c. search needs) (λ c. search needs)
-    (λ c. written-more _ _ _ _ _ _ refl (search needs) (search needs) (c .before .before .loop .inv)) (λ c. c .before .loop .inv .lengths)
-    (λ c. search (gathered, needs)))
+    (λ c. search needs) (λ c. search needs) (λ c. search needs) (λ c. search needs) (λ c. search needs) loop-again
+    (λ c. c .before .loop .inv .lengths) (λ c. search (gathered, needs)))
