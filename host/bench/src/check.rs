@@ -134,7 +134,8 @@ fn each(cpi: usize, accepted: &Accepted, mut check: impl FnMut(&[u64]) -> u64) {
     }
 }
 
-fn by_original(spec: &CircuitSpec, accepted: &Accepted) {
+/// One check by the original of each batch.
+pub fn by_original(spec: &CircuitSpec, accepted: &Accepted) {
     for z in &accepted.elements {
         let answer = check_row(black_box(spec), black_box(z));
         assert_eq!(answer, Ok(()), "the original does not accept");

@@ -16,6 +16,7 @@ mod makers;
 mod mul;
 mod reads;
 mod stack;
+mod storage;
 mod table;
 mod timing;
 mod way_back;
@@ -43,6 +44,7 @@ fn main() -> ExitCode {
     stack::print();
     filler::print();
     way_back::print();
+    storage::print();
     ExitCode::SUCCESS
 }
 

@@ -45,3 +45,8 @@ pub fn fine(seconds: f64) -> String {
 pub fn ratio(one: f64, other: f64) -> String {
     format!("{:.2}", one / other)
 }
+
+/// GB a second, where so many bytes take so many seconds.
+pub fn giga(bytes: usize, seconds: f64) -> String {
+    format!("{:.2}", bytes as f64 / seconds / 1e9)
+}

@@ -17,6 +17,7 @@ mod page;
 mod parallel;
 mod report;
 mod rows;
+mod storage;
 mod verdict;
 mod witness;
 mod words;
@@ -47,5 +48,6 @@ fn main() -> ExitCode {
     tests.extend(filler::tests());
     tests.extend(witness::tests());
     tests.extend(page::tests());
+    tests.extend(storage::tests());
     report::run_all(&tests)
 }

@@ -28,6 +28,11 @@ impl Numbers {
         self.next() % bound
     }
 
+    /// So many words of any sort.
+    pub fn words(&mut self, words: usize) -> Vec<u64> {
+        (0..words).map(|_| self.next()).collect()
+    }
+
     /// An element with about half of its bits set.
     pub fn dense(&mut self) -> u128 {
         u128::from(self.next()) << 64 | u128::from(self.next())

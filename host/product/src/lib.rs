@@ -74,6 +74,41 @@ mod c {
             out: *mut u64,
             out_len: usize,
         ) -> u64;
+        pub fn compare_pack(
+            cpi: usize,
+            batch: *const u64,
+            batch_len: usize,
+            out: *mut u64,
+            out_len: usize,
+        ) -> u64;
+        pub fn compare_pack_cycles(
+            cpi: usize,
+            batch: *const u64,
+            batch_len: usize,
+            out: *mut u64,
+            out_len: usize,
+        ) -> u64;
+        pub fn compare_unpack(
+            cpi: usize,
+            words: *const u64,
+            words_len: usize,
+            batch: *mut u64,
+            batch_len: usize,
+        ) -> u64;
+        pub fn compare_to_cycles(
+            cpi: usize,
+            words: *const u64,
+            words_len: usize,
+            out: *mut u64,
+            out_len: usize,
+        ) -> u64;
+        pub fn compare_to_batch(
+            cpi: usize,
+            words: *const u64,
+            words_len: usize,
+            out: *mut u64,
+            out_len: usize,
+        ) -> u64;
         pub fn compare_read(words: *const u64, words_len: usize) -> u64;
         pub fn compare_read_bytes(bytes: *const u8, bytes_len: usize) -> u64;
         pub fn compare_clear(scratch: *mut u64, scratch_len: usize);
@@ -360,6 +395,73 @@ pub fn pack_named(cpi: usize, batch: &[u64], out: &mut [u64]) -> u64 {
             cpi,
             batch.as_ptr(),
             batch.len(),
+            out.as_mut_ptr(),
+            out.len(),
+        )
+    }
+}
+
+/// Packs the columns below one_col in batch order, 64 to a word: batch column 64 · k + j is bit j of
+/// word k. Returns 0. Refused, as in the four that follow: 2^63 + number · 2^32.
+pub fn pack(cpi: usize, batch: &[u64], out: &mut [u64]) -> u64 {
+    unsafe {
+        c::compare_pack(
+            cpi,
+            batch.as_ptr(),
+            batch.len(),
+            out.as_mut_ptr(),
+            out.len(),
+        )
+    }
+}
+
+/// Packs them straight into cycle order: column c of cycle d is bit 2,048 · d + c. Returns 0.
+pub fn pack_cycles(cpi: usize, batch: &[u64], out: &mut [u64]) -> u64 {
+    unsafe {
+        c::compare_pack_cycles(
+            cpi,
+            batch.as_ptr(),
+            batch.len(),
+            out.as_mut_ptr(),
+            out.len(),
+        )
+    }
+}
+
+/// Writes the bits of packed words, in batch order, into the columns below one_col of a batch, and returns
+/// 0. Public columns stay.
+pub fn unpack(cpi: usize, words: &[u64], batch: &mut [u64]) -> u64 {
+    unsafe {
+        c::compare_unpack(
+            cpi,
+            words.as_ptr(),
+            words.len(),
+            batch.as_mut_ptr(),
+            batch.len(),
+        )
+    }
+}
+
+/// Rearranges packed words from batch order into cycle order and returns 0.
+pub fn to_cycles(cpi: usize, words: &[u64], out: &mut [u64]) -> u64 {
+    unsafe {
+        c::compare_to_cycles(
+            cpi,
+            words.as_ptr(),
+            words.len(),
+            out.as_mut_ptr(),
+            out.len(),
+        )
+    }
+}
+
+/// Rearranges packed words from cycle order into batch order and returns 0.
+pub fn to_batch(cpi: usize, words: &[u64], out: &mut [u64]) -> u64 {
+    unsafe {
+        c::compare_to_batch(
+            cpi,
+            words.as_ptr(),
+            words.len(),
             out.as_mut_ptr(),
             out.len(),
         )

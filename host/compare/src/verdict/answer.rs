@@ -27,6 +27,10 @@ pub const COLUMN: u64 = 14;
 pub const CYCLE: u64 = 15;
 /// Document 02's, asked after 13.
 pub const PAGE_LENGTH: u64 = 16;
+/// Document 02's, asked after 2.
+pub const PACKED_LENGTH: u64 = 18;
+/// Document 02's, asked after 18.
+pub const LOWER_BIT: u64 = 17;
 
 /// Which rows were tested and what came of it.
 #[derive(Clone, Copy, Debug, PartialEq, Eq)]

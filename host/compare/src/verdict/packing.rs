@@ -105,8 +105,8 @@ fn refused(
     [words, room]: [usize; 2],
     number: u64,
 ) {
-    let mut batch = Lent::of(&anything(numbers, words));
-    let mut out = Lent::of(&anything(numbers, room));
+    let mut batch = Lent::of(&numbers.words(words));
+    let mut out = Lent::of(&numbers.words(room));
     let answer = product::pack_named(cpi, batch.words(), out.words_mut());
     let place = || format!("{cpi} cycles, {words} and {room} words");
     tally.same(place, answer, REFUSED + (number << 32));
@@ -117,7 +117,7 @@ fn refused(
 
 fn pack(tally: &mut Tally, numbers: &mut Numbers, batch: &mut Batch, place: &dyn Fn() -> String) {
     let cpi = batch.cpi;
-    let before = anything(numbers, WORDS_OF_A_CYCLE * cpi);
+    let before = numbers.words(WORDS_OF_A_CYCLE * cpi);
     let mut out = Lent::of(&before);
     let answer = product::pack_named(cpi, batch.words.words(), out.words_mut());
     tally.same(place, answer, u64::from(!all_bits(batch)));
@@ -151,8 +151,4 @@ fn all_bits(batch: &Batch) -> bool {
 fn sum(batch: &Batch, cycle: usize, k: usize) -> u64 {
     let low = |j| batch.z[batch_column(batch.cpi, COLUMNS_OF_A_WORD * k + j, cycle)].0 as u64;
     (0..COLUMNS_OF_A_WORD).fold(0, |sum: u64, j| sum.wrapping_add(low(j) << j))
-}
-
-fn anything(numbers: &mut Numbers, words: usize) -> Vec<u64> {
-    (0..words).map(|_| numbers.next()).collect()
 }
