@@ -6,6 +6,14 @@ use mathlib.Core.List.{List}
 use Prim.Native.Nat.{ℕ, _+_, _*_, _/_, _≤_, _<_}
 use lib.ListN.{length, getD}
 use Rattle.layout.specs.Batch.{allowed}
+use Rattle.packed.specs.declared.order.Order.{Order}
+use Rattle.packed.specs.declared.order.Order.the-variants.{Batch, Cycles}
+use Rattle.packed.specs.Storage.{byCycle, byBatch}
+
+-- words that are in the other order
+abbrev pub putInto : Order → ℕ → List ℕ → List ℕ
+putInto Batch cpi words = byBatch cpi words
+putInto Cycles cpi words = byCycle cpi words
 
 pub record OrderIn (cpi : ℕ) (words out : List ℕ) : Type 0 where
   pub size : allowed cpi ≡ true

@@ -7,7 +7,12 @@ ghost use mathlib.Core.Path.{_≡_};
 ghost use Prim.Native.Nat.{_*_, _<_, _≤_};
 ghost use lib.ListN.{length};
 ghost use Rattle.packed.specs.Storage.{byCycle, byBatch};
-ghost use Rattle.packed.specs.Order.{OrderIn, BlocksIn, Gathered};
+ghost use Rattle.packed.specs.Order.{putInto, OrderIn, BlocksIn, Gathered};
+
+pub enum Order {
+    Batch,
+    Cycles,
+}
 
 // Word k of each cycle from its place.
 fn get_words(words: &[u64], k: usize, acc: &mut [u64])
@@ -52,23 +57,20 @@ fn blocks_into_batch(cpi: usize, words: &[u64], a: &mut [u64], b: &mut [u64], ou
     }
 }
 
-// One cycle's words are in both orders.
-pub fn cycles_from_batch(cpi: usize, words: &[u64], out: &mut [u64])
-    requires { ⌜ OrderIn cpi (now words) (now out) ⌝ }
-    ensures { λ _. ⌜ now (out .exit) ≡ byCycle cpi (now (words .entry)) ⌝ }
+fn blocks(order: Order, cpi: usize, words: &[u64], a: &mut [u64], b: &mut [u64], out: &mut [u64])
+    requires { ⌜ BlocksIn cpi (now words) (now a) (now b) (now out) ⌝ }
+    ensures { λ _. ⌜ now (out .exit) ≡ putInto order cpi (now (words .entry)) ⌝ }
 {
-    if cpi == 1 {
-        base::copy_at(words, out, 0);
-        return;
+    match order {
+        Order::Batch => blocks_into_batch(cpi, words, a, b, out),
+        Order::Cycles => blocks_into_cycles(cpi, words, a, b, out),
     }
-    let mut a = [0u64; 256];
-    let mut b = [0u64; 256];
-    blocks_into_cycles(cpi, words, &mut a[..cpi], &mut b[..cpi], out);
 }
 
-pub fn batch_from_cycles(cpi: usize, words: &[u64], out: &mut [u64])
+// Words that are in the other order, put into this one. One cycle's words are in both.
+pub fn put_into(order: Order, cpi: usize, words: &[u64], out: &mut [u64])
     requires { ⌜ OrderIn cpi (now words) (now out) ⌝ }
-    ensures { λ _. ⌜ now (out .exit) ≡ byBatch cpi (now (words .entry)) ⌝ }
+    ensures { λ _. ⌜ now (out .exit) ≡ putInto order cpi (now (words .entry)) ⌝ }
 {
     if cpi == 1 {
         base::copy_at(words, out, 0);
@@ -76,5 +78,5 @@ pub fn batch_from_cycles(cpi: usize, words: &[u64], out: &mut [u64])
     }
     let mut a = [0u64; 256];
     let mut b = [0u64; 256];
-    blocks_into_batch(cpi, words, &mut a[..cpi], &mut b[..cpi], out);
+    blocks(order, cpi, words, &mut a[..cpi], &mut b[..cpi], out);
 }

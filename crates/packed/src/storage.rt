@@ -1,8 +1,8 @@
 // Packed storage of a batch: one bit a column below one_col, 64 to a word, in batch order or in cycle order.
 use crate::ask;
 use crate::one::pack_words;
-use crate::order::batch_from_cycles;
-use crate::order::cycles_from_batch;
+use crate::order::Order;
+use crate::order::put_into;
 use crate::unpack::lay_words;
 use layout::Asked;
 ghost use mathlib.Core.Path.{_≡_};
@@ -11,12 +11,7 @@ ghost use lib.ListN.{length};
 ghost use Rattle.layout.specs.Questions.{Called};
 ghost use Rattle.packed.specs.Storage.{packCalled, packCyclesCalled, unpackCalled, orderAsked, toCyclesCalled, toBatchCalled};
 ghost use Rattle.packed.specs.Named.{NamedIn};
-ghost use Rattle.packed.specs.Stored.{Handed, storeCalled};
-
-enum Order {
-    Batch,
-    Cycles,
-}
+ghost use Rattle.packed.specs.Stored.{Handed, storeCalled, rearrangeCalled};
 
 // A column that is no bit is refused, and `out` must then be as it came: the words are made apart from it, in batch order.
 fn hand_over(order: Order, cpi: usize, batch: &[u64], made: &mut [u64], out: &mut [u64]) -> bool
@@ -28,7 +23,7 @@ fn hand_over(order: Order, cpi: usize, batch: &[u64], made: &mut [u64], out: &mu
     }
     match order {
         Order::Batch => base::copy_at(made, out, 0),
-        Order::Cycles => cycles_from_batch(cpi, made, out),
+        Order::Cycles => put_into(Order::Cycles, cpi, made, out),
     }
     true
 }
@@ -121,18 +116,25 @@ fn ask_order(cpi: usize, read: usize, written: usize) -> Asked
     Asked::Yes
 }
 
+fn rearrange(order: Order, cpi: usize, words: &[u64], out: &mut [u64]) -> Asked
+    ensures { λ r. ⌜ _≡_ {A = Called} (record { answer = r; batch = now (out .exit) })
+        (rearrangeCalled order cpi (now (words .entry)) (now (out .entry))) ⌝ }
+{
+    match ask_order(cpi, words.len(), out.len()) {
+        Asked::No(r) => Asked::No(r),
+        Asked::Yes => {
+            put_into(order, cpi, words, out);
+            Asked::Yes
+        }
+    }
+}
+
 // From batch order into cycle order.
 pub fn to_cycles(cpi: usize, words: &[u64], out: &mut [u64]) -> Asked
     ensures { λ r. ⌜ _≡_ {A = Called} (record { answer = r; batch = now (out .exit) })
         (toCyclesCalled cpi (now (words .entry)) (now (out .entry))) ⌝ }
 {
-    match ask_order(cpi, words.len(), out.len()) {
-        Asked::No(r) => Asked::No(r),
-        Asked::Yes => {
-            cycles_from_batch(cpi, words, out);
-            Asked::Yes
-        }
-    }
+    rearrange(Order::Cycles, cpi, words, out)
 }
 
 // From cycle order into batch order.
@@ -140,11 +142,5 @@ pub fn to_batch(cpi: usize, words: &[u64], out: &mut [u64]) -> Asked
     ensures { λ r. ⌜ _≡_ {A = Called} (record { answer = r; batch = now (out .exit) })
         (toBatchCalled cpi (now (words .entry)) (now (out .entry))) ⌝ }
 {
-    match ask_order(cpi, words.len(), out.len()) {
-        Asked::No(r) => Asked::No(r),
-        Asked::Yes => {
-            batch_from_cycles(cpi, words, out);
-            Asked::Yes
-        }
-    }
+    rearrange(Order::Batch, cpi, words, out)
 }

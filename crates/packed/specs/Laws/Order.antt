@@ -16,10 +16,12 @@ use Rattle.base.specs.Laws.Lists.{_and_}
 use Rattle.layout.specs.Batch.{allowed}
 use Rattle.layout.specs.Laws.Mapping.{witness-column}
 use Rattle.layout.specs.Laws.Sizes.{each-size, allowed-range}
+use Rattle.packed.specs.declared.order.Order.{Order}
+use Rattle.packed.specs.declared.order.Order.the-variants.{Batch, Cycles}
 use Rattle.packed.specs.Storage.{bitIn, Fit, inBatch, inCycles, byCycle, byBatch}
 use Rattle.packed.specs.Ranges.{Scattered}
 use Rattle.packed.specs.Turn.{Turned}
-use Rattle.packed.specs.Order.{OrderIn, BlocksIn, Gathered}
+use Rattle.packed.specs.Order.{putInto, OrderIn, BlocksIn, Gathered}
 use Rattle.packed.specs.Laws.InWords.{bit-is, same-words, of-bits}
 
 -- word k of each cycle, in the end
@@ -51,16 +53,23 @@ module _ (cpi : ℕ) (batch cycles : List ℕ) (h : Alike cpi batch cycles 2048)
       (λ x l. ap (bitIn batch) (sym (div-add-mod' x cpi))
       ∙ sym (h (x / cpi) (x % cpi) (div-lt-iff-lt-mul some .1 (omega arith)) (mod-lt x some)))
 
+-- what the order is told to be
+pub into-batch : (order : Order) (cpi : ℕ) (words out : List ℕ) → order ≡ Batch → out ≡ byBatch cpi words → out ≡ putInto order cpi words
+into-batch order cpi words out q e = e ∙ ap (λ (o : Order). putInto o cpi words) (sym q)
+
+pub into-cycles : (order : Order) (cpi : ℕ) (words out : List ℕ) → order ≡ Cycles → out ≡ byCycle cpi words → out ≡ putInto order cpi words
+into-cycles order cpi words out q e = e ∙ ap (λ (o : Order). putInto o cpi words) (sym q)
+
 -- one cycle's words are in both orders
-module _ (cpi : ℕ) (words : List ℕ) (one : cpi ≡ 1) (e : length words ≡ 32 * cpi) (f : Fit words) where
-  one-alike : Alike cpi words words 2048
-  one-alike c d l m = ap (bitIn words) (omega (arith, ap (λ (n : ℕ). c * n) one))
+pub one-cycle : (order : Order) (cpi : ℕ) (words : List ℕ) → cpi ≡ 1 → length words ≡ 32 * cpi → Fit words → words ≡ putInto order cpi words
+one-cycle order cpi words one e f = go order
+  where
+    alike : Alike cpi words words 2048
+    alike c d l m = ap (bitIn words) (omega (arith, ap (λ (n : ℕ). c * n) one))
 
-  pub one-cycles : words ≡ byCycle cpi words
-  one-cycles = are-cycles cpi words words one-alike e f
-
-  pub one-batch : words ≡ byBatch cpi words
-  one-batch = are-batch cpi words words one-alike (omega arith) e f
+    go : (order : Order) → words ≡ putInto order cpi words
+    go Batch = are-batch cpi words words alike (omega arith) e f
+    go Cycles = are-cycles cpi words words alike e f
 
 -- ---- one block more: columns 64 q to 64 q + 63
 

@@ -13,9 +13,12 @@ use Rattle.layout.specs.declared.Asked.the-variants.{Yes, No}
 use Rattle.layout.specs.Questions.{no, ifYes, after}
 use Rattle.layout.specs.Batch.{allowed, batchWords}
 use Rattle.layout.specs.Laws.Questions.{answered, both-yes, if-yes, if-no, after-yes, called-yes, yes-batch}
+use Rattle.packed.specs.declared.order.Order.{Order}
+use Rattle.packed.specs.declared.order.Order.the-variants.{Batch, Cycles}
 use Rattle.packed.specs.Packed.{roomAsked, packAsked}
 use Rattle.packed.specs.Storage.{Fit, packed, unpacked, byCycle, byBatch, lowerBits, storeAsked, orderAsked, packCalled, packCyclesCalled, unpackCalled, toCyclesCalled, toBatchCalled}
-use Rattle.packed.specs.Order.{OrderIn}
+use Rattle.packed.specs.Order.{putInto, OrderIn}
+use Rattle.packed.specs.Stored.{rearrangeCalled}
 use Rattle.packed.specs.Named.{NamedIn}
 use Rattle.packed.specs.RoundTrips.{Left, Joins, CallsKept}
 use Rattle.packed.specs.Laws.InWords.{with-length}
@@ -89,13 +92,10 @@ module _ (cpi : ℕ) where
   unfolding packed
   packed-length batch = with-length _ (32 * cpi)
 
-  by-cycle-length : (words : List ℕ) → length (byCycle cpi words) ≡ 32 * cpi
-  unfolding byCycle
-  by-cycle-length words = with-length _ (32 * cpi)
-
-  by-batch-length : (words : List ℕ) → length (byBatch cpi words) ≡ 32 * cpi
-  unfolding byBatch
-  by-batch-length words = with-length _ (32 * cpi)
+  put-length : (order : Order) (words : List ℕ) → length (putInto order cpi words) ≡ 32 * cpi
+  unfolding byBatch byCycle
+  put-length Batch words = with-length _ (32 * cpi)
+  put-length Cycles words = with-length _ (32 * cpi)
 
   -- ---- one call after the other
 
@@ -125,27 +125,26 @@ module _ (cpi : ℕ) where
       (yes-store new out room (unpacked-bits cpi words batch (h .words)))
       (sym (kept cpi (h .size) .packed-unpacked words batch (h .room) f (h .words)))))
 
-  cycles-batch : (words out made back : List ℕ) → Fit words → length back ≡ 32 * cpi → Left (toCyclesCalled cpi words out) made
-      → Left (toBatchCalled cpi made back) words
-  unfolding toCyclesCalled toBatchCalled
-  cycles-batch words out made back f s e =
-      let y = after-yes (orderAsked cpi (length words) (length out)) (byCycle cpi words) out made e in
-      let o = order-yes (length words) (length out) (y .0) in let new = byCycle cpi words in
-      subst (λ (u : List ℕ). Left (toBatchCalled cpi u back) words) (sym (y .1))
-      (sym
-      (called-yes (orderAsked cpi (length new) (length back)) (byBatch cpi new) back words
-      (yes-order (length new) (length back) (o .0) (by-cycle-length words) s) (sym (kept cpi (o .0) .batch-again words (o .1 .0) f))))
+  -- a rearrangement, and the other one after it
+  other : Order → Order
+  other Batch = Cycles
+  other Cycles = Batch
 
-  batch-cycles : (words out made back : List ℕ) → Fit words → length back ≡ 32 * cpi → Left (toBatchCalled cpi words out) made
-      → Left (toCyclesCalled cpi made back) words
-  unfolding toCyclesCalled toBatchCalled
-  batch-cycles words out made back f s e =
-      let y = after-yes (orderAsked cpi (length words) (length out)) (byBatch cpi words) out made e in
-      let o = order-yes (length words) (length out) (y .0) in let new = byBatch cpi words in
-      subst (λ (u : List ℕ). Left (toCyclesCalled cpi u back) words) (sym (y .1))
+  put-back : allowed cpi ≡ true → (order : Order) (words : List ℕ) → length words ≡ 32 * cpi → Fit words
+      → putInto (other order) cpi (putInto order cpi words) ≡ words
+  unfolding other
+  put-back ok Batch = kept cpi ok .cycles-again
+  put-back ok Cycles = kept cpi ok .batch-again
+
+  rearrange-back : (order : Order) (words out made back : List ℕ) → Fit words → length back ≡ 32 * cpi
+      → Left (rearrangeCalled order cpi words out) made → Left (rearrangeCalled (other order) cpi made back) words
+  rearrange-back order words out made back f s e =
+      let y = after-yes (orderAsked cpi (length words) (length out)) (putInto order cpi words) out made e in
+      let o = order-yes (length words) (length out) (y .0) in let new = putInto order cpi words in
+      subst (λ (u : List ℕ). Left (rearrangeCalled (other order) cpi u back) words) (sym (y .1))
       (sym
-      (called-yes (orderAsked cpi (length new) (length back)) (byCycle cpi new) back words
-      (yes-order (length new) (length back) (o .0) (by-batch-length words) s) (sym (kept cpi (o .0) .cycles-again words (o .1 .0) f))))
+      (called-yes (orderAsked cpi (length new) (length back)) (putInto (other order) cpi new) back words
+      (yes-order (length new) (length back) (o .0) (put-length order words) s) (sym (put-back (o .0) order words (o .1 .0) f))))
 
   pack-rearrange : (batch out words there : List ℕ) → Left (packCalled cpi batch out) words
       → toCyclesCalled cpi words there ≡ packCyclesCalled cpi batch there
@@ -157,11 +156,12 @@ module _ (cpi : ℕ) where
       (ap (byCycle cpi) (y .1) ∙ sym (kept cpi (h .0 .size) .straight batch))
 
   pub calls-kept : CallsKept cpi
+  unfolding toCyclesCalled toBatchCalled other
   calls-kept =
       record {
         pack-unpack = pack-unpack;
         unpack-pack = unpack-pack;
-        cycles-batch = cycles-batch;
-        batch-cycles = batch-cycles;
+        cycles-batch = rearrange-back Cycles;
+        batch-cycles = rearrange-back Batch;
         pack-rearrange = pack-rearrange;
       }

@@ -20,13 +20,14 @@ use Rattle.layout.specs.Batch.{allowed}
 use Rattle.layout.specs.Laws.Questions.{if-yes, if-no, called-yes, called-no}
 use Rattle.layout.specs.Laws.Sizes.{allowed-range}
 use Rattle.verdict.specs.Row.{elementAt, asBit}
-use Rattle.packed.specs.declared.storage.Order.{Order}
-use Rattle.packed.specs.declared.storage.Order.the-variants.{Batch, Cycles}
+use Rattle.packed.specs.declared.order.Order.{Order}
+use Rattle.packed.specs.declared.order.Order.the-variants.{Batch, Cycles}
 use Rattle.packed.specs.Packed.{packAsked}
 use Rattle.packed.specs.Storage.{packed, byCycle, lowerBits, storeAsked}
 use Rattle.packed.specs.Seen.{BitAt}
 use Rattle.packed.specs.Columns.{BitsIn}
 use Rattle.packed.specs.One.{RowIn, InRow}
+use Rattle.packed.specs.Order.{putInto}
 use Rattle.packed.specs.Named.{NamedIn}
 use Rattle.packed.specs.Stored.{packedIn, Handed, storeCalled}
 use Rattle.packed.specs.Laws.InWords.{are-words}
@@ -84,7 +85,7 @@ module _ (cpi : ℕ) (batch : List ℕ) where
           handed after z
           (copied-whole made out after (e ∙ sym (h .lengths ∙ room)) w ∙ made-is z ∙ ap (λ (o : Order). packedIn o cpi batch) (sym q))
 
-      pub handed-cycles : (after : List ℕ) → order ≡ Cycles → bad ≡ 0 → allowed cpi ≡ true → after ≡ byCycle cpi made
+      pub handed-cycles : (after : List ℕ) → order ≡ Cycles → bad ≡ 0 → allowed cpi ≡ true → after ≡ putInto Cycles cpi made
           → Handed order cpi batch out after true
       handed-cycles after q z ok e =
           handed after z
