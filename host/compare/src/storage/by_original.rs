@@ -28,7 +28,7 @@ pub fn tests() -> Vec<Test> {
 }
 
 fn each_batch(tally: &mut Tally) {
-    at_every_size(tally, 116, BATCHES, |tally, mut numbers, cpi, part| {
+    at_every_size(tally, 117, BATCHES, |tally, mut numbers, cpi, part| {
         let place = |what: &str| format!("batch {part} of {cpi}, {what}");
         let one = ONE_COLUMN * cpi;
         let mut z = batches::dense(&mut numbers, cpi);
@@ -49,7 +49,10 @@ fn each_batch(tally: &mut Tally) {
         for (i, matrix) in [a, b, c, d, e, f, &alone].into_iter().enumerate() {
             let (sums, _) = matrix.apply_simd_packed(&packed, &z[one + 1..], 1, one);
             let right = matrix.apply(&z);
-            let apart = sums.iter().zip(&right).position(|(sum, right)| sum != right);
+            let apart = sums
+                .iter()
+                .zip(&right)
+                .position(|(sum, right)| sum != right);
             tally.same(|| place(&format!("matrix {i}")), apart, None);
         }
     });
