@@ -6,10 +6,11 @@ use mathlib.Core.Bool.{true}
 use mathlib.Core.List.{List}
 use Prim.Native.Nat.{ℕ, _+_, _*_, _≤_, _<_}
 use lib.ListN.{length, getD}
+use Rattle.base.specs.Bits.{bitAt}
 use Rattle.layout.specs.declared.Asked.the-variants.{Yes}
 use Rattle.layout.specs.Questions.{Called}
 use Rattle.layout.specs.Batch.{batchWords}
-use Rattle.verdict.specs.Row.{elementAt, bitsOf}
+use Rattle.verdict.specs.Row.{elementAt, asBit, bitsOf}
 use Rattle.packed.specs.Packed.{namedWord, packedNamed, namedBits}
 use Rattle.packed.specs.Storage.{bitIn, Fit, packed, unpacked, byCycle, byBatch, packedByCycle, lowerBits, packCalled, packCyclesCalled, unpackCalled, toCyclesCalled, toBatchCalled}
 
@@ -24,6 +25,8 @@ pub record Joins (cpi : ℕ) (batch lower public : List ℕ) : Type 0 where
 
 -- what is packed and what is read back
 pub record Kept (cpi : ℕ) : Type 0 where
+  -- bit j of word k is batch column 64 k + j
+  pub batch-order : (batch : List ℕ) (k j : ℕ) → k < 32 * cpi → j < 64 → bitAt (getD (packed cpi batch) k 0) j ≡ asBit (elementAt batch (64 * k + j))
   -- unpacked after packing, into any batch of that size
   pub unpacked-packed : (batch target : List ℕ) → lowerBits cpi batch ≡ true → length target ≡ batchWords cpi
       → Joins cpi (unpacked cpi (packed cpi batch) target) batch target

@@ -28,6 +28,7 @@ fn hand_over(order: Order, cpi: usize, batch: &[u64], made: &mut [u64], out: &mu
     true
 }
 
+// The words that are made stand on the stack, which is cleared first: few cycles get a short piece of it, which costs them less.
 fn hand_small(order: Order, cpi: usize, batch: &[u64], out: &mut [u64]) -> bool
     requires { ⌜ NamedIn cpi (now batch) (now out) × (cpi < 17) ⌝ }
     ensures { λ r. ⌜ Handed order cpi (now (batch .entry)) (now (out .entry)) (now (out .exit)) r ⌝ }

@@ -22,7 +22,7 @@ use Rattle.verdict.specs.Row.{elementAt, asBit, cycleOf, bitsOf}
 use Rattle.packed.specs.Packed.{namedWord, packedNamed, namedBits}
 use Rattle.packed.specs.Storage.{bitIn, Fit, packed, unpackedWord, unpacked, inBatch, inCycles, byCycle, byBatch, packedByCycle, lowerBits}
 use Rattle.packed.specs.RoundTrips.{Joins, Kept}
-use Rattle.packed.specs.Laws.InWords.{with-word, with-bit, same-words, of-bits}
+use Rattle.packed.specs.Laws.InWords.{bit-is, with-word, with-bit, same-words, of-bits}
 use Rattle.packed.specs.Laws.Places.{in-batch-lt, in-cycles-lt, cycles-of-batch, batch-of-cycles}
 use Rattle.packed.specs.Laws.Seen.{as-digit}
 use Rattle.packed.specs.Laws.Named.{bits-each}
@@ -127,6 +127,7 @@ module _ (cpi : ℕ) (ok : allowed cpi ≡ true) where
   unfolding byBatch byCycle packedByCycle bitsOf cycleOf
   kept =
       record {
+        batch-order = λ batch k j l m. sym (bit-is (packed cpi batch) k j m) ∙ packed-bit cpi batch (64 * k + j) (omega arith);
         unpacked-packed = joined;
         packed-unpacked = words-again;
         batch-again = λ words e h.

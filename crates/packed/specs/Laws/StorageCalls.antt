@@ -4,14 +4,16 @@ use mathlib.Core.Path.{_≡_, refl, sym, ap, ap₂, subst, _∙_}
 use mathlib.Core.Bool.{true, false}
 use mathlib.Core.List.{List}
 use Prim.Native.Nat.{ℕ, _*_}
+use native.Mathlib.Decide.{ℕ-discrete}
 use borrow.Author.Tests.{eqb-true, eq-eqb, ne-eqb}
 use lib.Dec.{eqb}
 use lib.ListN.{length}
 use Rattle.base.specs.Laws.Tests.{passed, refused}
+use Rattle.layout.specs.declared.Refusal.{Refusal}
 use Rattle.layout.specs.declared.Asked.{Asked}
 use Rattle.layout.specs.declared.Asked.the-variants.{Yes, No}
-use Rattle.layout.specs.Questions.{no, ifYes, after}
-use Rattle.layout.specs.Batch.{allowed, batchWords}
+use Rattle.layout.specs.Questions.{no as refusal, ifYes, after}
+use Rattle.layout.specs.Batch.{allowed, batchWords, batchAsked}
 use Rattle.layout.specs.Laws.Questions.{answered, both-yes, if-yes, if-no, after-yes, called-yes, yes-batch}
 use Rattle.packed.specs.declared.order.Order.{Order}
 use Rattle.packed.specs.declared.order.Order.the-variants.{Batch, Cycles}
@@ -29,7 +31,7 @@ use Rattle.packed.specs.Laws.RoundTrips.{unpacked-length, unpacked-bits,
 
 module _ (cpi : ℕ) where
   room-yes : (room : ℕ) → roomAsked cpi room ≡ Yes → room ≡ 32 * cpi
-  room-yes room e = eqb-true room (32 * cpi) (answered (eqb room (32 * cpi)) Yes (no 18 0) e .0)
+  room-yes room e = eqb-true room (32 * cpi) (answered (eqb room (32 * cpi)) Yes (refusal 18 0) e .0)
 
   yes-room : (room : ℕ) → room ≡ 32 * cpi → roomAsked cpi room ≡ Yes
   yes-room room e = sym (passed _ _ _ (eq-eqb room (32 * cpi) e))
@@ -43,28 +45,51 @@ module _ (cpi : ℕ) where
   unfolding storeAsked
   store-yes batch out e =
       let y = both-yes (packAsked cpi (length batch) (length out)) _ e in
-      (asked-yes-in cpi batch out (y .0), answered (lowerBits cpi batch) Yes (no 17 0) (y .1) .0)
+      (asked-yes-in cpi batch out (y .0), answered (lowerBits cpi batch) Yes (refusal 17 0) (y .1) .0)
 
   pub yes-store : (batch out : List ℕ) → NamedIn cpi batch out → lowerBits cpi batch ≡ true → storeAsked cpi batch (length out) ≡ Yes
   unfolding storeAsked
   yes-store batch out h b = sym (passed _ _ _ b ∙ if-yes No _ (in-asked-yes cpi batch out h))
 
-  -- 18 is asked before 17, and so whatever the columns hold
+  -- ---- the order of the questions
+
+  -- 1 and 2 come first, whatever room there is and whatever the columns hold
+  pub batch-first : (batch : List ℕ) (room : ℕ) (r : Refusal) → batchAsked cpi (length batch) ≡ No r
+      → (packAsked cpi (length batch) room ≡ No r) × (storeAsked cpi batch room ≡ No r)
+  unfolding storeAsked packAsked
+  batch-first batch room r e =
+      let p : packAsked cpi (length batch) room ≡ No r = sym (if-no No (roomAsked cpi room) e) in (p, sym (if-no No _ p))
+
+  -- then 18, whatever the columns hold
   pub room-first : (batch out : List ℕ) → allowed cpi ≡ true → length batch ≡ batchWords cpi → (length out ≡ 32 * cpi → ⊥)
-      → storeAsked cpi batch (length out) ≡ No (no 18 0)
+      → storeAsked cpi batch (length out) ≡ No (refusal 18 0)
   unfolding storeAsked packAsked
   room-first batch out size words other =
-      let asked = refused _ Yes (No (no 18 0)) (ne-eqb (length out) (32 * cpi) other) in
+      let asked = refused _ Yes (No (refusal 18 0)) (ne-eqb (length out) (32 * cpi) other) in
       sym (if-no No _ (sym (asked ∙ if-yes No (roomAsked cpi (length out)) (yes-batch cpi (length batch) size words))))
 
-  pub column-refused : (batch out : List ℕ) → NamedIn cpi batch out → lowerBits cpi batch ≡ false → storeAsked cpi batch (length out) ≡ No (no 17 0)
+  pub column-refused : (batch out : List ℕ) → NamedIn cpi batch out → lowerBits cpi batch ≡ false → storeAsked cpi batch (length out) ≡ No (refusal 17 0)
   unfolding storeAsked
-  column-refused batch out h b = sym (refused _ Yes (No (no 17 0)) b ∙ if-yes No _ (in-asked-yes cpi batch out h))
+  column-refused batch out h b = sym (refused _ Yes (No (refusal 17 0)) b ∙ if-yes No _ (in-asked-yes cpi batch out h))
+
+  -- of a rearrangement 1 comes first, and then 18 of either slice
+  pub size-first : (read written : ℕ) → allowed cpi ≡ false → orderAsked cpi read written ≡ No (refusal 1 0)
+  unfolding orderAsked
+  size-first read written e = sym (refused _ _ _ e)
+
+  pub either-room : (read written : ℕ) → allowed cpi ≡ true → ((read ≡ 32 * cpi) × (written ≡ 32 * cpi) → ⊥)
+      → orderAsked cpi read written ≡ No (refusal 18 0)
+  unfolding orderAsked
+  either-room read written ok other =
+      elim (ℕ-discrete read (32 * cpi)) [
+        | yes e ↦ last-room read written ok e ∙ sym (refused _ Yes (No (refusal 18 0)) (ne-eqb written (32 * cpi) (λ w. other (e, w))))
+        | no f ↦ sym (refused _ (roomAsked cpi written) (No (refusal 18 0)) (ne-eqb read (32 * cpi) f) ∙ passed _ _ _ ok)
+      ]
 
   order-yes : (read written : ℕ) → orderAsked cpi read written ≡ Yes → (allowed cpi ≡ true) × ((read ≡ 32 * cpi) × (written ≡ 32 * cpi))
   unfolding orderAsked
   order-yes read written e =
-      let y = answered (allowed cpi) _ (no 1 0) e in let z = answered (eqb read (32 * cpi)) _ (no 18 0) (y .1) in
+      let y = answered (allowed cpi) _ (refusal 1 0) e in let z = answered (eqb read (32 * cpi)) _ (refusal 18 0) (y .1) in
       (y .0, (eqb-true read (32 * cpi) (z .0), room-yes written (z .1)))
 
   pub yes-order : (read written : ℕ) → allowed cpi ≡ true → read ≡ 32 * cpi → written ≡ 32 * cpi → orderAsked cpi read written ≡ Yes
