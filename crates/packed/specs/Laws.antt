@@ -14,7 +14,7 @@
 --     Stacked           bits pushed on a word, one by one and four at a time
 --     StorageCalls      the calls of packed storage: where they say yes and where no, and their round trips
 --     StorageExample    a batch of two cycles with one column set, in both orders; with a 2 there it is refused
---     Stored            a batch packed in either order: what the words are that were made, and the call that hands them over
+--     Stored            a batch packed: the words that were made, handed over in either order; and the call
 --     Unpack            packed words laid out as elements, turn by turn, and the batch that they make
 --     Words             column c of cycle d is bit c % 64 of word 32 · d + c / 64
 pub mod Columns

@@ -1,4 +1,4 @@
--- Packed words. All but Packed, Storage and RoundTrips serve contracts of private functions.
+-- Packed words. All but Packed, Storage, RoundTrips and Stacked serve contracts of private functions.
 -- What a reader must believe:
 --     Packed            packed words: 64 columns of a cycle a word, the lowest column in the lowest bit
 --     Storage           packed storage of a batch: batch order and cycle order, and the calls that pack, unpack and rearrange
@@ -11,7 +11,7 @@
 --     Turn              a block of 64 columns turned, by six steps over its words
 --     Order             packed words put from one order into the other, block after block
 --     Named             the named words of every cycle: both stretches of them, and the call
---     Stored            a batch packed in one of its two orders: the words, and the call that hands them over
+--     Stored            the calls of storage over the order that is asked for: packed, handed over or not, and rearranged
 --     Unpack            packed words laid out as elements: a word's 64, and word after word
 -- What follows from these, which the prover checks: Laws.
 pub mod Packed

@@ -20,6 +20,7 @@ Left c made = c ≡ record { answer = Yes; batch = made }
 
 -- the columns below one_col of a batch are those of another, and its public columns those of a third
 pub record Joins (cpi : ℕ) (batch lower public : List ℕ) : Type 0 where
+  pub lengths : length batch ≡ length public
   pub below : (x : ℕ) → x < 2048 * cpi → elementAt batch x ≡ elementAt lower x
   pub from-one : (x : ℕ) → 2048 * cpi ≤ x → elementAt batch x ≡ elementAt public x
 

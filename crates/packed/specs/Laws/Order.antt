@@ -37,7 +37,7 @@ Alike cpi batch cycles n = (c d : ℕ) → c < n → d < cpi → bitIn cycles (2
 
 module _ (cpi : ℕ) (batch cycles : List ℕ) (h : Alike cpi batch cycles 2048) where
   -- with all columns alike, each is the other rearranged
-  pub are-cycles : length cycles ≡ 32 * cpi → Fit cycles → cycles ≡ byCycle cpi batch
+  are-cycles : length cycles ≡ 32 * cpi → Fit cycles → cycles ≡ byCycle cpi batch
   unfolding byCycle
   are-cycles e f =
       sym (of-bits cycles (32 * cpi) e f)
@@ -45,7 +45,7 @@ module _ (cpi : ℕ) (batch cycles : List ℕ) (h : Alike cpi batch cycles 2048)
       (λ y l. let c = y % 2048 in let d = y / 2048 in
       ap (bitIn cycles) (omega arith) ∙ h c d (omega arith) (omega arith) ∙ ap (bitIn batch) (sym (witness-column cpi c d (omega arith))))
 
-  pub are-batch : 0 < cpi → length batch ≡ 32 * cpi → Fit batch → batch ≡ byBatch cpi cycles
+  are-batch : 0 < cpi → length batch ≡ 32 * cpi → Fit batch → batch ≡ byBatch cpi cycles
   unfolding byBatch
   are-batch some e f =
       sym (of-bits batch (32 * cpi) e f)
@@ -225,7 +225,7 @@ batch-end cpi cycles a b out q some l g = are-batch cpi out cycles (all-alike cp
 -- ---- the lent blocks
 
 -- every size but 1 is even
-pub size-even : (cpi : ℕ) → allowed cpi ≡ true → (cpi ≡ 1 → ⊥) → cpi ≡ 2 * (cpi / 2)
+size-even : (cpi : ℕ) → allowed cpi ≡ true → (cpi ≡ 1 → ⊥) → cpi ≡ 2 * (cpi / 2)
 size-even =
     each-size (λ (n : ℕ). (n ≡ 1 → ⊥) → n ≡ 2 * (n / 2))
     ((λ f. absurd (f refl)) and (λ f. refl) and (λ f. refl) and (λ f. refl) and (λ f. refl) and (λ f. refl) and (λ f. refl)

@@ -59,7 +59,7 @@ no-range cpi batch first out =
     }
 
 -- one word more
-pub more-range : (cpi : ℕ) (batch : List ℕ) (first k : ℕ) (before now new : List ℕ) (bad r : ℕ) → first ≤ k → k < 32
+more-range : (cpi : ℕ) (batch : List ℕ) (first k : ℕ) (before now new : List ℕ) (bad r : ℕ) → first ≤ k → k < 32
     → Ranged cpi batch first k before now bad → length new ≡ length now
     → ((d : ℕ) → d < cpi → getD new (32 * d + k) 0 ≡ packedWord cpi batch d k)
     → ((d j : ℕ) → j < 32 → (j ≡ k → ⊥) → getD new (32 * d + j) 0 ≡ getD now (32 * d + j) 0)

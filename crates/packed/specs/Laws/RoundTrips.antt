@@ -1,4 +1,4 @@
--- Packed storage keeps what it is given, for every batch size: each of these follows from bits that go by the mapping and back.
+-- Packed storage keeps what it is given, for every batch size: words are told by their bits, and bits go by the mapping and back.
 -- Assumes nothing.
 use mathlib.Core.Path.{_≡_, refl, sym, ap, ap₂, _∙_}
 use mathlib.Core.Bool.{Bool, true, false, cond}
@@ -100,6 +100,7 @@ module _ (cpi : ℕ) (ok : allowed cpi ≡ true) where
   joined batch target b s =
       let words = packed cpi batch in
       record {
+        lengths = unpacked-length cpi words target;
         below = λ x l. let w = bit-words batch x cpi b l in
             ap₂ ofWords (low-at cpi words target s x l ∙ ap (λ (t : Bool). digit t) (packed-bit cpi batch x l) ∙ sym (w .0))
             (high-at cpi words target s x l ∙ sym (w .1));

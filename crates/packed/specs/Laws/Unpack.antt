@@ -113,7 +113,7 @@ pub all-unpacked : (words : List ℕ) (n : ℕ) (before after : List ℕ) → n 
 all-unpacked words n before after l m h = let e : n ≡ length words = omega arith in rw (sym e) h
 
 -- the batch as a whole
-pub unpacked-out : (cpi : ℕ) (words before after : List ℕ) → length words ≡ 32 * cpi → Unpacked words (length words) before after
+unpacked-out : (cpi : ℕ) (words before after : List ℕ) → length words ≡ 32 * cpi → Unpacked words (length words) before after
     → after ≡ unpacked cpi words before
 unfolding unpacked unpackedWord
 unpacked-out cpi words before after s h =

@@ -51,7 +51,7 @@ module _ (cpi : ℕ) (batch : List ℕ) (d k : ℕ) (bits : (c : ℕ) → 64 * k
       (λ c p q. as-digit (lowAt cpi batch d c) (bits c p q .0) ∙ ap (λ (n : ℕ). digit (eqb n 1)) (sym (low-words _ _))))
       ∙ mod-eq-of-lt (val-lt 64 (λ i. asBit (elementAt batch ((64 * k + i) * cpi + d))))
 
-  pub packed-bits : k < 32 → packedWord cpi batch d k ≡ word (bitsOf cpi batch d) (64 * k) 64
+  packed-bits : k < 32 → packedWord cpi batch d k ≡ word (bitsOf cpi batch d) (64 * k) 64
   packed-bits l = word-bits ∙ val-same _ _ 64 (λ i m. bit-read cpi d (64 * k + i) batch (omega arith) refl refl refl)
 
 module _ (cpi : ℕ) (some : 0 < cpi) (batch : List ℕ) (bits : namedBits cpi batch ≡ true) where
