@@ -30,7 +30,7 @@ use Rattle.packed.specs.Laws.Words.{named-range, packed-at, packed-word}
 
 -- ---- bit x of what is packed or rearranged
 
-pub packed-bit : (cpi : ℕ) (batch : List ℕ) (x : ℕ) → x < 2048 * cpi → bitIn (packed cpi batch) x ≡ asBit (elementAt batch x)
+packed-bit : (cpi : ℕ) (batch : List ℕ) (x : ℕ) → x < 2048 * cpi → bitIn (packed cpi batch) x ≡ asBit (elementAt batch x)
 unfolding packed
 packed-bit cpi batch x l = with-bit (λ (x : ℕ). asBit (elementAt batch x)) (32 * cpi) x (omega arith)
 

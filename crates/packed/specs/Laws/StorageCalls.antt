@@ -68,9 +68,10 @@ module _ (cpi : ℕ) where
       let asked = refused _ Yes (No (refusal 18 0)) (ne-eqb (length out) (32 * cpi) other) in
       sym (if-no No _ (sym (asked ∙ if-yes No (roomAsked cpi (length out)) (yes-batch cpi (length batch) size words))))
 
-  pub column-refused : (batch out : List ℕ) → NamedIn cpi batch out → lowerBits cpi batch ≡ false → storeAsked cpi batch (length out) ≡ No (refusal 17 0)
+  -- and 17 last
+  pub columns-last : (batch out : List ℕ) → NamedIn cpi batch out → lowerBits cpi batch ≡ false → storeAsked cpi batch (length out) ≡ No (refusal 17 0)
   unfolding storeAsked
-  column-refused batch out h b = sym (refused _ Yes (No (refusal 17 0)) b ∙ if-yes No _ (in-asked-yes cpi batch out h))
+  columns-last batch out h b = sym (refused _ Yes (No (refusal 17 0)) b ∙ if-yes No _ (in-asked-yes cpi batch out h))
 
   -- of a rearrangement 1 comes first, and then 18 of either slice
   pub size-first : (read written : ℕ) → allowed cpi ≡ false → orderAsked cpi read written ≡ No (refusal 1 0)

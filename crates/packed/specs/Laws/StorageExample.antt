@@ -27,7 +27,7 @@ use Rattle.packed.specs.Named.{NamedIn}
 use Rattle.packed.specs.RoundTrips.{Left, Joins}
 use Rattle.packed.specs.Laws.InWords.{with-length, with-bit, with-fit, same-words}
 use Rattle.packed.specs.Laws.Named.{bits-each}
-use Rattle.packed.specs.Laws.StorageCalls.{yes-store, yes-order, column-refused, calls-kept}
+use Rattle.packed.specs.Laws.StorageCalls.{yes-store, yes-order, columns-last, calls-kept}
 
 -- v in the low word of batch column 131
 unfoldable pub lone : ℕ → List ℕ
@@ -139,7 +139,7 @@ module _ (out : List ℕ) (room : length out ≡ 64) where
       (yes-order 2 (length (only 131)) (length out) size (with-length _ 64) room) (sym by-cycle-is))
 
   refused : (made : List ℕ) → after (storeAsked 2 (lone 2) (length out)) made out ≡ record { answer = No (refusal 17 0); batch = out }
-  refused made = sym (called-no (storeAsked 2 (lone 2) (length out)) (refusal 17 0) made out (column-refused 2 (lone 2) out (lent 2) no-bits))
+  refused made = sym (called-no (storeAsked 2 (lone 2) (length out)) (refusal 17 0) made out (columns-last 2 (lone 2) out (lent 2) no-bits))
 
   pub storage-examples : StorageExamples out
   unfolding packCalled packCyclesCalled wordsWith from val
