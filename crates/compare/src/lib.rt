@@ -15,7 +15,8 @@ pub mod words;
 ghost use mathlib.Core.Path.{_≡_};
 ghost use Prim.Native.Nat.{_<_, _^_};
 ghost use Rattle.field.specs.Gf.{ofWords, added, product, shifted, power};
-ghost use Rattle.layout.specs.Batch.{exponentOf, geometryOf, mapped, unmapped};
+ghost use Rattle.base.specs.Bits.{digit};
+ghost use Rattle.layout.specs.Batch.{exponentOf, scratchFits, geometryOf, mapped, unmapped};
 ghost use Rattle.circuit.specs.Circuit.{circuitWords};
 ghost use Rattle.circuit.specs.Batched.{batched, unmappedRow};
 ghost use lib.ListN.{getD};
@@ -109,6 +110,14 @@ pub extern "C" fn compare_exponent(cpi: usize) -> u32
     ensures { λ r. ⌜ r ≡ exponentOf cpi ⌝ }
 {
     layout::exponent(cpi)
+}
+
+// 1 where scratch of so many words fits, else 0.
+#[no_mangle]
+pub extern "C" fn compare_scratch_fits(words: usize) -> u32
+    ensures { λ r. ⌜ r ≡ digit (scratchFits words) ⌝ }
+{
+    if layout::scratch_fits(words) { 1 } else { 0 }
 }
 
 fn column_number(answer: ColumnAnswer) -> u64

@@ -40,7 +40,7 @@ abbrev pub EveryStep : ℕ → List ℕ → Type 0
 EveryStep cpi batch = (d : ℕ) → d < cpi → Step (bitsOf cpi batch d) (cycleOf cpi batch d (ONE-COL + 1))
 
 -- What a call promises of the batch as it came, beside the definition. A no to questions 1, 2, 11 or 12 is the answer, and leaves the
--- batch. After a yes the batch is filled, and the answer that of the check on it, lent the house listing and any scratch of 3,072 words. It
+-- batch. After a yes the batch is filled, and the answer that of the check on it, lent the house listing and any scratch that fits. It
 -- is accepted exactly when the questions were answered with yes and every cycle meets the conditions, and fails exactly when they were and
 -- some cycle does not; and it is the same whatever stood in the derived columns.
 pub record Promised (cpi : ℕ) (before : List ℕ) (answer : CheckAnswer) (batch : List ℕ) : Type 0 where

@@ -1,10 +1,10 @@
 -- A batch: its sizes and their exponents, questions 1, 2 and 5, its geometry, and where the columns of its cycles stand (document 01,
 -- "Columns").
 -- Assumes nothing.
-use mathlib.Core.Bool.{Bool, false, cond, _||_}
+use mathlib.Core.Bool.{Bool, false, cond, _&&_, _||_}
 use mathlib.Core.List.{List, [], _∷_}
 use Prim.Native.Nat.{ℕ, _+_, _-_, _*_, _/_, _%_, _^_}
-use lib.Dec.{eqb, ltb}
+use lib.Dec.{eqb, leb, ltb}
 use Rattle.base.specs.Tests.{firstFrom}
 use Rattle.layout.specs.declared.Asked.{Asked}
 use Rattle.layout.specs.declared.Asked.the-variants.{Yes, No}
@@ -44,12 +44,15 @@ batchWords cpi = ROW-WORDS * cpi
 unfoldable pub batchAsked : ℕ → ℕ → Asked
 batchAsked cpi words = cond (allowed cpi) (cond (eqb words (batchWords cpi)) Yes (No (no 2 0))) (No (no 1 0))
 
--- question 5, of the number of words of the check's scratch
-abbrev pub SCRATCH-WORDS : ℕ
-SCRATCH-WORDS = 3072
+-- question 5, of the number of words of the check's scratch: a multiple of 6, from 6 to 3,072
+abbrev pub SCRATCH-STEP : ℕ
+SCRATCH-STEP = 6
+
+abbrev pub SCRATCH-MOST : ℕ
+SCRATCH-MOST = 3072
 
 unfoldable pub scratchFits : ℕ → Bool
-scratchFits words = eqb words SCRATCH-WORDS
+scratchFits words = eqb (words % SCRATCH-STEP) 0 && (leb SCRATCH-STEP words && leb words SCRATCH-MOST)
 
 -- cycles of a batch where nobody chooses: the constant of src/lib.rt, which `default_cpi` ties to it
 abbrev pub DEFAULT-CPI : ℕ

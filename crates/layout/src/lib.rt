@@ -15,7 +15,9 @@ pub const DEFAULT_CPI: usize = 1; // cycles of a batch where nobody chooses
 
 pub const ROW_WORDS: usize = 8192; // words of a row: 4,096 elements, of two words each
 
-pub const SCRATCH_WORDS: usize = 3072; // words of the check's scratch
+pub const SCRATCH_STEP: usize = 6; // the check's scratch has so many words, or a multiple of it
+
+pub const SCRATCH_MOST: usize = 3072; // and at most so many
 
 // A question of document 01 that was answered with no: its number, and the place (a word's index for 7 to 10, the smallest batch
 // column for 11, else 0).
@@ -94,11 +96,11 @@ pub fn ask_batch(cpi: usize, words: usize) -> Asked
     Asked::Yes
 }
 
-// Question 5, of the number of words of the check's scratch.
+// Question 5, of the number of words of the check's scratch: a multiple of 6, from 6 to 3,072.
 pub fn scratch_fits(words: usize) -> bool
     ensures { λ r. ⌜ r ≡ scratchFits words ⌝ }
 {
-    words == SCRATCH_WORDS
+    (words % SCRATCH_STEP == 0) & ((SCRATCH_STEP <= words) & (words <= SCRATCH_MOST))
 }
 
 pub fn default_cpi() -> usize

@@ -1,4 +1,5 @@
 // Does the product read in the batch or the listing what stands in a vector? A refusal has its place in all answers but the check's.
+use crate::words::all_are;
 use crate::words::has_part;
 use crate::words::part;
 use crate::words::same_words;
@@ -29,18 +30,23 @@ fn verdict_is(v: Verdict, n: [u64; 8]) -> bool {
     }
 }
 
-// The check of the batch that was set up, against the house listing.
+// The check against the house listing. Scratch holds ones before, zeros after a verdict, and the ones after a refusal.
+fn check_in(n: [u64; 8], batch: &[u64], scratch: &mut [u64]) -> bool {
+    let listing = circuit::build_circuit();
+    match judge::check_row(n[0] as usize, &listing, batch, scratch) {
+        CheckAnswer::Judged(v) => verdict_is(v, n) & all_are(scratch, 0),
+        CheckAnswer::Refused(r) => (n[1] == 3) & (r.number as u64 == n[2]) & all_are(scratch, 1),
+    }
+}
+
+// The check of the batch that was set up, from the most scratch that is taken and from the least.
 fn check(n: [u64; 8], cells: &[u64]) -> bool {
     let count = n[0] % 0x100 * 0x2000;
     if !has_part(cells, 0, count) {
         return false;
     }
-    let listing = circuit::build_circuit();
-    let mut scratch = [0u64; 0xc00];
-    match judge::check_row(n[0] as usize, &listing, part(cells, 0, count), &mut scratch) {
-        CheckAnswer::Judged(v) => verdict_is(v, n),
-        CheckAnswer::Refused(r) => (n[1] == 3) & (r.number as u64 == n[2]),
-    }
+    let batch = part(cells, 0, count);
+    check_in(n, batch, &mut [1u64; 0xc00]) & check_in(n, batch, &mut [1u64; 6])
 }
 
 // n: cpi, words of the batch, the answer.

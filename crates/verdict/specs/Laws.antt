@@ -11,6 +11,7 @@
 --     RowParts          what parsing gives of a row is what its runs of terms give
 --     RowsFound         in a listing in order every row is the one that the search finds by its relation and row number
 --     Run               the walk over constraints, for any test: all are met, or which is the first that is not, and the count
+--     Scratch           the check's answer is the same from any scratch that fits; what is left there; given calls
 --     Sheet             P4 and P5 of the bench sheet, of the check's own result
 --     Shown             what a failing verdict names: the cycle, the row that the search finds, and that it does not hold there
 --     SideSums          the laws of a side's sum: it is proper, and sides one after the other add up
@@ -29,6 +30,7 @@ pub mod Row
 pub mod RowParts
 pub mod RowsFound
 pub mod Run
+pub mod Scratch
 pub mod Sheet
 pub mod Shown
 pub mod SideSums

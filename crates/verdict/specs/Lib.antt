@@ -2,6 +2,7 @@
 -- What a reader must believe:
 --     Row               what a row says of a cycle
 --     Check             the check: the constraints of all cycles in their order, the first that does not hold, and how many were tested
+--     Scratch           what the check owes to its scratch: no more than question 5
 --     Apply             the sums of one row of a listing in one cycle of a batch
 --     Bits              the bit test
 --     Named             the columns that a row names: those of its terms whose coefficient is not zero
@@ -14,6 +15,7 @@
 -- What follows from these, which the prover checks: Laws.
 pub mod Row
 pub mod Check
+pub mod Scratch
 pub mod Apply
 pub mod Bits
 pub mod Named

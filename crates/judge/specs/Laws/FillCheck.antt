@@ -7,7 +7,7 @@ use mathlib.Core.List.{List}
 use Prim.Native.Nat.{ℕ, _*_, _^_, _<_}
 use native.Mathlib.Omega.{arith}
 use borrow.Author.Tests.{not-true}
-use lib.ListN.{length, getD, replicate}
+use lib.ListN.{length, getD}
 use Rattle.base.specs.Laws.Cases.{no-true}
 use Rattle.field.specs.declared.Gf128.{Gf128}
 use Rattle.field.specs.Gf.{isBit}
@@ -16,8 +16,9 @@ use Rattle.layout.specs.declared.Asked.{Asked}
 use Rattle.layout.specs.declared.Asked.the-variants.{Yes, No}
 use Rattle.layout.specs.Questions.{Called, after}
 use Rattle.layout.specs.Laws.Sizes.{allowed-range}
-use Rattle.layout.specs.Laws.Questions.{if-yes, after-yes, yes-batch, some-scratch}
-use Rattle.layout.specs.Batch.{SCRATCH-WORDS, batchWords, scratchFits}
+use Rattle.layout.specs.Laws.Questions.{if-yes, after-yes, yes-batch}
+use Rattle.layout.specs.Laws.Scratch.{someScratch, some-fits}
+use Rattle.layout.specs.Batch.{batchWords}
 use Rattle.circuit.specs.Circuit.{circuitWords}
 use Rattle.verdict.specs.declared.CheckAnswer.{CheckAnswer}
 use Rattle.verdict.specs.declared.CheckAnswer.the-variants.{Judged, Refused}
@@ -95,18 +96,11 @@ module _ (cpi : ℕ) (before : List ℕ) (fit : (i : ℕ) → getD before i 0 < 
   met : Premises cpi before
   met = premises cpi before p fit
 
-  scratch : List ℕ
-  scratch = replicate SCRATCH-WORDS 0
+  demand : Demand3 circuitWords Step cpi before someScratch
+  demand = demand3 cpi (p .size) before someScratch some-fits met
 
-  room : scratchFits (length scratch) ≡ true
-  unfolding scratch
-  room = some-scratch
-
-  demand : Demand3 circuitWords Step cpi before scratch
-  demand = demand3 cpi (p .size) before scratch room met
-
-  answer-is : houseChecked cpi (filled cpi before) ≡ checked cpi circuitWords (filled cpi before) scratch .answer
-  answer-is = house-agrees cpi (filled cpi before) scratch room
+  answer-is : houseChecked cpi (filled cpi before) ≡ checked cpi circuitWords (filled cpi before) someScratch .answer
+  answer-is = house-agrees cpi (filled cpi before) someScratch some-fits
 
   filled-words : length (filled cpi before) ≡ batchWords cpi
   unfolding filled

@@ -8,9 +8,9 @@ use Prim.Native.Nat.{ℕ, _+_, _*_, _<_}
 use lib.ListN.{replicate}
 use Rattle.field.specs.Gf.{ofWords, isBit}
 use Rattle.layout.specs.declared.Asked.the-variants.{Yes}
-use Rattle.layout.specs.Batch.{SCRATCH-WORDS, allowed, batchWords, batchAsked}
+use Rattle.layout.specs.Batch.{allowed, batchWords, batchAsked}
 use Rattle.layout.specs.Questions.{no, Called}
-use Rattle.layout.specs.Laws.Questions.{some-scratch}
+use Rattle.layout.specs.Laws.Scratch.{someScratch, some-fits}
 use Rattle.layout.specs.Laws.Sizes.{allowed-range}
 use Rattle.verdict.specs.declared.Verdict.{Verdict}
 use Rattle.verdict.specs.declared.Verdict.the-variants.{Accepted}
@@ -88,8 +88,8 @@ pub filled-and-judged : {row : List ℕ} {v : Verdict} → Gives row v → fillC
 filled-and-judged {row} {v} g =
     as-called 1 row (g .fill)
     ∙ ap (λ (a : CheckAnswer). record { answer = a; batch = filled 1 row })
-    (house-agrees 1 (filled 1 row) (replicate SCRATCH-WORDS 0) some-scratch
-    ∙ ap (λ (c : Checked). c .answer) (g .check (replicate SCRATCH-WORDS 0) some-scratch))
+    (house-agrees 1 (filled 1 row) someScratch some-fits
+    ∙ ap (λ (c : Checked). c .answer) (g .check someScratch some-fits))
 
 pub refusals : Refusals
 unfolding fillChecked called fillAsked batchAsked allowed

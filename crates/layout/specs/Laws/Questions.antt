@@ -1,21 +1,19 @@
 -- What a chain of questions, or a call that asks one, says where it was answered with yes.
 -- Assumes nothing.
 use mathlib.Core.Path.{_≡_, refl, sym, ap, _∙_}
-use mathlib.Core.Logic.{_↔_}
 use mathlib.Core.Bool.{Bool, true, false, cond}
 use mathlib.Core.List.{List}
 use Prim.Native.Nat.{ℕ}
 use native.Mathlib.Omega.{arith}
 use borrow.Author.Tests.{eqb-true, eq-eqb}
 use lib.Dec.{eqb}
-use lib.ListN.{length, replicate, length-replicate}
 use Rattle.base.specs.Laws.Tests.{passed}
 use Rattle.base.specs.Laws.WaysOut.{waysOut}
 use Rattle.layout.specs.declared.Refusal.{Refusal}
 use Rattle.layout.specs.declared.Asked.{Asked}
 use Rattle.layout.specs.declared.Asked.the-variants.{Yes, No}
 use Rattle.layout.specs.Questions.{no, ifYes, Called, after}
-use Rattle.layout.specs.Batch.{allowed, batchWords, batchAsked, SCRATCH-WORDS, scratchFits}
+use Rattle.layout.specs.Batch.{allowed, batchWords, batchAsked}
 
 -- a chain that was answered with yes
 pub answered : (test : Bool) (next : Asked) (r : Refusal) → cond test next (No r) ≡ Yes → (test ≡ true) × (next ≡ Yes)
@@ -33,6 +31,12 @@ if-yes refuse answer e = ap (λ q. ifYes refuse q answer) (sym e)
 
 pub if-no : {A : Type 0} (refuse : Refusal → A) (answer : A) {q : Asked} {r : Refusal} → q ≡ No r → refuse r ≡ ifYes refuse q answer
 if-no refuse answer e = ap (λ q. ifYes refuse q answer) (sym e)
+
+-- the answer after questions and further ones: after the first, and then after the others
+pub ask-on : {A : Type 0} (refuse : Refusal → A) (q next : Asked) (answer : A)
+    → ifYes refuse (ifYes No q next) answer ≡ ifYes refuse q (ifYes refuse next answer)
+ask-on refuse Yes next answer = refl
+ask-on refuse (No r) next answer = refl
 
 -- the same in the form that `search` takes: questions that a function asked, and the way out after them
 pub asked-yes : {A : Type 0} (refuse : Refusal → A) (told q : Asked) (x answer : A) → told ≡ q → told ≡ Yes → x ≡ answer
@@ -68,13 +72,3 @@ pub yes-batch : (cpi words : ℕ) → allowed cpi ≡ true → words ≡ batchWo
 unfolding batchAsked
 yes-batch cpi words size length =
     sym (passed _ _ _ (eq-eqb words (batchWords cpi) length) ∙ passed _ _ _ size)
-
--- which scratch fits, by its number
-pub fits-exactly : (words : ℕ) → (scratchFits words ≡ true) ↔ (words ≡ 3072)
-unfolding scratchFits
-fits-exactly words = (eqb-true words 3072, eq-eqb words 3072)
-
--- there is scratch that fits
-pub some-scratch : scratchFits (length {A = ℕ} (replicate SCRATCH-WORDS 0)) ≡ true
-unfolding scratchFits
-some-scratch = eq-eqb _ _ (length-replicate {A = ℕ} SCRATCH-WORDS 0)

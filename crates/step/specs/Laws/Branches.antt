@@ -8,14 +8,14 @@ use mathlib.Core.Bool.{Bool, true, false, not, false≢true}
 use mathlib.Core.List.{List}
 use Prim.Native.Nat.{ℕ, _+_, _-_, _^_, _<_}
 use native.Mathlib.Omega.{arith}
-use lib.ListN.{length, replicate}
+use lib.ListN.{length}
 use Rattle.base.specs.Bits.{word, signed}
 use Rattle.base.specs.Laws.Values.{val-same, same-bits, complement}
 use Rattle.field.specs.Gf.{zero, one, ofBit}
 use Rattle.layout.specs.Columns.{ONE-COL, RS1, RS2, T1, T2, SUB, IS-ARITH, TAKEN, FETCH-OP, FETCH-FUNCT3}
-use Rattle.layout.specs.Batch.{allowed, scratchFits, SCRATCH-WORDS}
+use Rattle.layout.specs.Batch.{allowed, scratchFits}
 use Rattle.layout.specs.Laws.Sizes.{allowed-range}
-use Rattle.layout.specs.Laws.Questions.{some-scratch}
+use Rattle.layout.specs.Laws.Scratch.{someScratch, some-fits}
 use Rattle.circuit.specs.Circuit.{circuitWords}
 use Rattle.verdict.specs.Row.{cycleOf, bitsOf}
 use Rattle.verdict.specs.Check.{checked}
@@ -141,8 +141,8 @@ module _ (cpi : ℕ) (size : allowed cpi ≡ true) (o f x y : ℕ) (lo : o < 2 ^
   pub taken-bit : (d : ℕ) → d < cpi → cycleOf cpi (filled cpi batch) d TAKEN ≡ ofBit (branchTaken o f x y)
   taken-bit d l = go (branchTaken o f x y) refl
     where
-      k : Decided cpi o f x y (replicate SCRATCH-WORDS 0)
-      k = decided (replicate SCRATCH-WORDS 0) some-scratch
+      k : Decided cpi o f x y someScratch
+      k = decided someScratch some-fits
 
       go : (h : Bool) → branchTaken o f x y ≡ h → cycleOf cpi (filled cpi batch) d TAKEN ≡ ofBit h
       go true e = k .taken d l .1 (taken-exactly o f x y .0 e)

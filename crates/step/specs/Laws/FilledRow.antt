@@ -55,8 +55,8 @@ use Rattle.step.specs.Laws.Listings.{cycle-rows, house}
 use Rattle.step.specs.Laws.Ones.{Holding, Fits, bits-are, output-is, premises}
 use Rattle.step.specs.Laws.CycleOrder.{at, rowsIn, beforeAddress, bins, beforeSum, beforeOutput, address-at, sum-at, output-at, bins-count, rows-count, rows-met}
 
--- the filler as called says yes and leaves the row filled, on which the check as called, over the house listing and with any scratch of
--- 3,072 words, gives a verdict, and zeros in the scratch
+-- the filler as called says yes and leaves the row filled, on which the check as called, over the house listing and with any scratch that
+-- fits, gives a verdict, and zeros in the scratch
 pub record Gives (row : List ℕ) (v : Verdict) : Type 0 where
   pub fill : called 1 row ≡ record { answer = Yes; batch = filled 1 row }
   pub check : (scratch : List ℕ) → scratchFits (length scratch) ≡ true

@@ -5,12 +5,11 @@ use mathlib.Core.Path.{_≡_, _∙_}
 use mathlib.Core.Bool.{Bool, true}
 use Prim.Native.Nat.{ℕ, _^_, _<_}
 use native.Mathlib.Omega.{arith}
-use lib.ListN.{replicate}
 use Rattle.field.specs.declared.Gf128.{Gf128}
 use Rattle.field.specs.Gf.{zero, one}
 use Rattle.layout.specs.Columns.{TAKEN}
-use Rattle.layout.specs.Batch.{allowed, SCRATCH-WORDS}
-use Rattle.layout.specs.Laws.Questions.{some-scratch}
+use Rattle.layout.specs.Batch.{allowed}
+use Rattle.layout.specs.Laws.Scratch.{someScratch, some-fits}
 use Rattle.verdict.specs.Row.{cycleOf, bitsOf}
 use Rattle.step.specs.Filling.{filled}
 use Rattle.step.specs.Laws.Branches.{comparingBatch, Decided, every-comparison}
@@ -43,15 +42,15 @@ module _ (o f x y : ℕ) (lo : o < 2 ^ 7) (other : o ≡ 0x73 → ⊥) (lf : f <
     abbrev b : ℕ → Bool
     b = bitsOf cpi (filled cpi (comparingBatch cpi o f x y)) d
 
-    decided : Decided cpi o f x y (replicate SCRATCH-WORDS 0)
-    decided = every-comparison cpi size o f x y lo other lf lx ly (replicate SCRATCH-WORDS 0) some-scratch
+    decided : Decided cpi o f x y someScratch
+    decided = every-comparison cpi size o f x y lo other lf lx ly someScratch some-fits
 
     read : cycleReading b ≡ reading o f x y
     read = cycle-read b o f x y (decided .instruction d l)
 
     as-read : TakenAsRead b (cycleOf cpi (filled cpi (comparingBatch cpi o f x y)) d TAKEN)
     as-read =
-        taken-column cpi size (comparingBatch cpi o f x y) (replicate SCRATCH-WORDS 0) some-scratch (decided .premises) (decided .accepted) d l
+        taken-column cpi size (comparingBatch cpi o f x y) someScratch some-fits (decided .premises) (decided .accepted) d l
         (decided .compares d l)
 
   shows-taken : reading o f x y ≡ Taken → Shows o f x y Taken one
