@@ -68,12 +68,13 @@ the check is. `check_house` is the check without a listing lent. The original st
 its `check_row`.";
 
 /// The check with the house listing lent, and what it is made of: each measured by itself, and all of
-/// them called one after the other.
+/// them called one after the other. Scratch is the most, but in one column.
 pub fn print_parts(checks: &[Checked]) {
     head(&[
         "`check_row` with the house listing lent",
         "unit",
         "`check_row`",
+        "`check_row`, 6 words of scratch",
         "`check_house`",
         "comparison with the table",
         "clearing of scratch",
@@ -88,6 +89,7 @@ pub fn print_parts(checks: &[Checked]) {
             format!("cpi {}", check.cpi),
             "µs a cycle".into(),
             fine(check.check_row),
+            fine(check.check_row_least),
             fine(check.check_house),
             fine(check.compare),
             fine(check.clear),

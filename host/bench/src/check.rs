@@ -6,7 +6,7 @@ use std::hint::black_box;
 use cellprism::Answer;
 use magnetar_cpu::circuit::{build_circuit_batched, check_row, CircuitSpec};
 
-use crate::inputs::{self, Accepted, ROWS, SCRATCH_WORDS};
+use crate::inputs::{self, Accepted, LEAST_SCRATCH, MOST_SCRATCH, ROWS};
 use crate::reads;
 use crate::timing::{in_turn, Work};
 use crate::CHECKS;
@@ -17,13 +17,15 @@ pub struct Checked {
     pub repetitions: usize,
     pub original: f64,
     pub read: f64,
-    /// The house listing is lent.
+    /// The house listing is lent, and the most scratch.
     pub check_row: f64,
     pub check_row_plain: f64,
+    /// `check_row` with the least scratch.
+    pub check_row_least: f64,
     /// No listing is lent.
     pub check_house: f64,
     pub check_house_plain: f64,
-    /// The comparison of the listing with the table, and the clearing of scratch, once a batch.
+    /// The comparison of the listing with the table, and the clearing of the most scratch, once a batch.
     pub compare: f64,
     pub clear: f64,
     /// Comparison, check and clearing called one after the other, so that each finds the caches as the
@@ -37,11 +39,12 @@ impl Checked {
         let spec = build_circuit_batched(cpi);
         let listing = inputs::listing();
         let listing = || black_box(&listing[..]);
-        let scratch = || vec![0; SCRATCH_WORDS];
+        let scratch = || vec![0; MOST_SCRATCH];
         let (mut fast, mut plain) = (scratch(), scratch());
+        let mut least = vec![0; LEAST_SCRATCH];
         let (mut cleared, mut behind) = (scratch(), scratch());
         let units = cpi * batches;
-        let [original, read, check_house, compare, clear, in_sequence, check_row, check_house_plain, check_row_plain] =
+        let [original, read, check_house, compare, clear, in_sequence, check_row, check_row_least, check_house_plain, check_row_plain] =
             in_turn(
                 Work { units, repetitions },
                 [
@@ -63,6 +66,11 @@ impl Checked {
                             product::check_row(cpi, listing(), z, &mut fast)
                         });
                     },
+                    &mut || {
+                        each(cpi, &accepted, |z| {
+                            product::check_row(cpi, listing(), z, &mut least)
+                        });
+                    },
                     &mut || each(cpi, &accepted, |z| product::check_house_plain(cpi, z)),
                     &mut || {
                         each(cpi, &accepted, |z| {
@@ -78,6 +86,7 @@ impl Checked {
             read,
             check_row,
             check_row_plain,
+            check_row_least,
             check_house,
             check_house_plain,
             compare,

@@ -3,7 +3,7 @@
 use std::hint::black_box;
 use std::ops::RangeInclusive;
 
-use crate::inputs::{self, Accepted, ROWS, SCRATCH_WORDS};
+use crate::inputs::{self, Accepted, MOST_SCRATCH, ROWS};
 use crate::table::{head, two};
 use crate::timing::{in_turn, Work};
 use crate::CHECKS;
@@ -38,7 +38,7 @@ pub fn print() {
 fn time(cpi: usize, batches: usize, repetitions: usize) -> [f64; 2] {
     let accepted = Accepted::new(cpi, batches);
     let listing = inputs::listing();
-    let mut scratch = vec![0; SCRATCH_WORDS];
+    let mut scratch = vec![0; MOST_SCRATCH];
     let mut filled = accepted.words.clone();
     for words in &mut filled {
         for column in DERIVED.into_iter().flatten() {

@@ -14,7 +14,9 @@ const LISTING_WORDS: usize = 3499;
 pub const ROWS: usize = 514;
 pub const BIN_ROWS: usize = 483;
 
-pub const SCRATCH_WORDS: usize = 3072;
+/// Words of scratch that the check may be lent: a multiple of the least, up to the most.
+pub const LEAST_SCRATCH: usize = 6;
+pub const MOST_SCRATCH: usize = 3072;
 
 /// Arithmetic, shifts, a store, a load of a byte and a branch, 363 cycles of it.
 const PROGRAM: [u32; 12] = [

@@ -50,8 +50,8 @@ fn main() -> ExitCode {
 
 const BUFFERS: &str = "\
 buffers: circuit, listing and batches are made in full before the first call, which is not timed.
-Scratch is lent, and not cleared by the caller: every check leaves it zero. The original allocates
-and clears its sums in each call. A row or batch that is made is lent too, the same for every call,
-and the original allocates and clears one in each. No cache is flushed: at cpi 1 there are 16 rows in
-turn (1 MB), at cpi 16 four batches (4 MB), at cpi 256 one (16 MB). What stands in one line was timed
-in turns.";
+Scratch is lent, 3,072 words where no other number stands, and not cleared by the caller: every check
+leaves it zero. The original allocates and clears its sums in each call. A row or batch that is made is
+lent too, the same for every call, and the original allocates and clears one in each. No cache is
+flushed: at cpi 1 there are 16 rows in turn (1 MB), at cpi 16 four batches (4 MB), at cpi 256 one
+(16 MB). What stands in one line was timed in turns.";

@@ -6,7 +6,7 @@ use cellprism::{Answer, Relation};
 use product::stack::touched;
 
 use crate::failing::{accepted, Damaged, Place};
-use crate::inputs::{bytes_of, listing, ROWS, SCRATCH_WORDS};
+use crate::inputs::{bytes_of, listing, LEAST_SCRATCH, ROWS};
 use crate::table::{head, line};
 use crate::CHECKS;
 
@@ -15,6 +15,9 @@ const MOST_KILOBYTES: usize = 256;
 
 /// On a batch that is accepted, and on one whose last row fails.
 type Bytes = [usize; 2];
+
+/// Size, listing, batch and scratch.
+type CheckRow = fn(usize, &[u32], &[u64], &mut [u64]) -> u64;
 
 pub fn print() {
     head(&[
@@ -28,8 +31,10 @@ pub fn print() {
         let damaged = Damaged::new(cpi);
         let house = of_check_house(&damaged);
         print_line(format!("`check_house`, cpi {cpi}"), house);
-        let row = of_check_row(&damaged);
+        let row = of_check_row(&damaged, product::check_row);
         print_line(format!("`check_row`, cpi {cpi}"), row);
+        let plain = of_check_row(&damaged, product::check_row_plain);
+        print_line(format!("`check_row`, the plain walk, cpi {cpi}"), plain);
     }
     let boundary = of_boundary(&Damaged::new(1));
     print_line("`cellprism_check_row`".into(), boundary);
@@ -46,11 +51,12 @@ fn of_check_house(damaged: &Damaged) -> Bytes {
     each(batches(damaged), |words| product::check_house(cpi, words))
 }
 
-fn of_check_row(damaged: &Damaged) -> Bytes {
+/// Lent the least scratch: what it lacks must not be taken from the stack.
+fn of_check_row(damaged: &Damaged, check: CheckRow) -> Bytes {
     let (cpi, listing) = (damaged.cpi, listing());
-    let mut scratch = vec![0; SCRATCH_WORDS];
+    let mut scratch = vec![0; LEAST_SCRATCH];
     each(batches(damaged), |words| {
-        product::check_row(cpi, &listing, words, &mut scratch)
+        check(cpi, &listing, words, &mut scratch)
     })
 }
 

@@ -40,6 +40,7 @@ mod c {
         pub fn compare_map_col(cpi: usize, column: usize, cycle: usize) -> u64;
         pub fn compare_map_z_col(cpi: usize, column: usize, cycle: usize) -> u64;
         pub fn compare_exponent(cpi: usize) -> u32;
+        pub fn compare_scratch_fits(words: usize) -> u32;
         pub fn compare_way_back(cpi: usize, batch_column: usize, part: u32) -> u64;
         pub fn compare_row_way_back(cpi: usize, relation: u32, batch_row: usize, part: u32) -> u64;
         pub fn compare_listing_word(i: usize) -> u32;
@@ -261,6 +262,11 @@ pub fn map_z_col(cpi: usize, column: usize, cycle: usize) -> Answer {
 /// The exponent of a batch size, 9 for a number that is none.
 pub fn exponent(cpi: usize) -> u32 {
     unsafe { c::compare_exponent(cpi) }
+}
+
+/// Whether the check takes scratch of so many words.
+pub fn scratch_fits(words: usize) -> bool {
+    unsafe { c::compare_scratch_fits(words) != 0 }
 }
 
 /// Part 0 is the column that a batch column came from, any other the cycle.

@@ -8,11 +8,10 @@ use super::constraints::Constraints;
 use super::forms::{CheckRow, CHECK_ROW, FORMS};
 use super::lent::Lent;
 use super::listings::Listing;
+use super::scratch;
 use crate::numbers::Numbers;
 use crate::original::{self, CircuitSpec};
 use crate::report::Tally;
-
-pub const SCRATCH_WORDS: usize = 3072;
 
 /// Comparisons that `Judge::judge` makes.
 pub const OF_A_VERDICT: u64 = 1 + 3 * FORMS as u64;
@@ -89,7 +88,7 @@ impl Judge {
     }
 
     /// The verdict by evaluation, in which the original agrees as far as it says anything.
-    fn right(&self, tally: &mut Tally, batch: &Batch, place: &dyn Fn() -> String) -> Verdict {
+    pub fn right(&self, tally: &mut Tally, batch: &Batch, place: &dyn Fn() -> String) -> Verdict {
         let verdict = self.constraints.verdict(&batch.z);
         let by_original = original::check_row(&self.spec, &batch.z);
         let relation = || format!("{}, relation by evaluation and original", place());
@@ -106,8 +105,10 @@ pub struct Desk {
 }
 
 impl Desk {
-    pub fn of(listing: &[u32], numbers: Numbers) -> Desk {
-        Desk::with_scratch(listing, SCRATCH_WORDS, numbers)
+    /// Any scratch that is taken, for the verdict is the same from each.
+    pub fn of(listing: &[u32], mut numbers: Numbers) -> Desk {
+        let words = scratch::any_length(&mut numbers);
+        Desk::with_scratch(listing, words, numbers)
     }
 
     pub fn with_scratch(listing: &[u32], words: usize, mut numbers: Numbers) -> Desk {

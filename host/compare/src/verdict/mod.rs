@@ -5,6 +5,7 @@ mod any_listing;
 pub mod batches;
 mod bits;
 pub mod boundary;
+mod cases;
 mod circuit;
 pub mod constraints;
 pub mod damages;
@@ -22,6 +23,7 @@ mod pool;
 pub mod programs;
 pub mod reader;
 pub mod refusals;
+mod scratch;
 mod search;
 mod sums;
 
@@ -36,6 +38,7 @@ pub fn tests() -> Vec<Test> {
     tests.extend(one_word::tests());
     tests.extend(packing::tests());
     tests.extend(refusals::tests());
+    tests.extend(scratch::tests());
     tests.extend(sums::tests());
     tests.extend(bits::tests());
     tests.extend(reader::tests());

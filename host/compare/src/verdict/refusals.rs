@@ -9,7 +9,7 @@ use super::damages::{
     circuit_words, too_long, two_wrong_words, wrong_at_last, Damage, Kind, KINDS, PAIRS, TOO_LONG,
 };
 use super::forms::{CHECK_HOUSE, FORMS};
-use super::judge::{refused, Desk, OF_A_REFUSAL, SCRATCH_WORDS};
+use super::judge::{refused, Desk, OF_A_REFUSAL};
 use super::lent::Lent;
 use super::listings::{self, Shape, MARKS, MOST_WORDS};
 use crate::columns::SIZES;
@@ -69,7 +69,7 @@ pub fn tests() -> Vec<Test> {
         ),
         test(
             "check_row refuses, order of 1, 2, 5, 6 and 7",
-            31 * OF_A_REFUSAL,
+            31 * SCRATCH.len() as u64 * OF_A_REFUSAL,
             order,
         ),
         test(
@@ -91,8 +91,9 @@ pub fn zero_batch(cpi: usize) -> Lent<u64> {
     Lent::of(&vec![0; 2 * COLUMNS * cpi])
 }
 
-fn desk(listing: &[u32]) -> Desk {
-    Desk::of(listing, Numbers::for_test(60))
+/// Each part of a test has scratch of its own.
+fn desk(listing: &[u32], part: usize) -> Desk {
+    Desk::of(listing, Numbers::for_part(60, part as u64))
 }
 
 /// A listing whose first word is refused by question 7.
@@ -121,7 +122,7 @@ pub const SIZES_REFUSED: [usize; 16] = [
 fn sizes(tally: &mut Tally) {
     for cpi in SIZES_REFUSED {
         let place = || format!("size {cpi}");
-        let mut right = desk(&circuit_words());
+        let mut right = desk(&circuit_words(), cpi);
         let (mut batch, size) = (zero_batch(1), refusal(SIZE));
         refused(tally, cpi, &mut right, &mut batch, size, &place);
         let mut wrong = Desk::with_scratch(&FAULTY, 1, Numbers::for_test(61));
@@ -131,12 +132,13 @@ fn sizes(tally: &mut Tally) {
 }
 
 fn batch_lengths(tally: &mut Tally) {
-    let mut right = desk(&circuit_words());
+    let house = circuit_words();
     let mut wrong = Desk::with_scratch(&FAULTY, 1, Numbers::for_test(62));
     for cpi in SIZES {
         let words = 2 * COLUMNS * cpi;
         for len in other_lengths(words) {
             let mut batch = Lent::of(&vec![0; len]);
+            let mut right = desk(&house, cpi << 32 | len);
             let place = || format!("{len} words for {cpi} cycles");
             for desk in [&mut right, &mut wrong] {
                 refused(tally, cpi, desk, &mut batch, refusal(BATCH_LENGTH), &place);
@@ -167,10 +169,11 @@ fn house_refused(tally: &mut Tally) {
     }
 }
 
+/// More lengths, and those that are taken, are with the tests of scratch.
 fn scratch_lengths(tally: &mut Tally) {
     for cpi in SIZES {
         let mut batch = zero_batch(cpi);
-        for len in other_lengths(SCRATCH_WORDS) {
+        for len in [0, 1, 1535, 3071, 3073, 6144] {
             let place = || format!("{len} words of scratch for {cpi} cycles");
             for listing in [&circuit_words()[..], &FAULTY] {
                 let mut desk = Desk::with_scratch(listing, len, Numbers::for_test(63));
@@ -188,7 +191,8 @@ fn listing_lengths(tally: &mut Tally) {
         for words in too_long() {
             let place = || format!("{} words of listing for {cpi} cycles", words.len());
             let right = refusal(LISTING_LENGTH);
-            refused(tally, cpi, &mut desk(&words), &mut batch, right, &place);
+            let mut desk = desk(&words, cpi << 32 | words.len());
+            refused(tally, cpi, &mut desk, &mut batch, right, &place);
         }
     }
 }
@@ -202,7 +206,7 @@ fn all_damages(tally: &mut Tally, kind: Kind) {
             word,
             number,
         } = damages[i];
-        let mut desk = desk(&words);
+        let mut desk = desk(&words, i);
         desk.listing.put(place, word);
         // The larger sizes are much memory and ask the same.
         let cpi = SIZES[i % 3];
@@ -213,40 +217,46 @@ fn all_damages(tally: &mut Tally, kind: Kind) {
 }
 
 fn last_word(tally: &mut Tally) {
-    for (words, right) in wrong_at_last() {
+    for (i, (words, right)) in wrong_at_last().into_iter().enumerate() {
         let at = || format!("last word {:08x}", words[right.place]);
-        refused(tally, 1, &mut desk(&words), &mut zero_batch(1), right, &at);
-    }
-}
-
-fn first_word_first(tally: &mut Tally) {
-    for (words, right) in two_wrong_words() {
-        let at = || format!("{words:08x?}");
-        let (mut desk, mut batch) = (desk(&words), zero_batch(1));
+        let (mut desk, mut batch) = (desk(&words, i), zero_batch(1));
         refused(tally, 1, &mut desk, &mut batch, right, &at);
     }
 }
 
+fn first_word_first(tally: &mut Tally) {
+    for (i, (words, right)) in two_wrong_words().into_iter().enumerate() {
+        let at = || format!("{words:08x?}");
+        let (mut desk, mut batch) = (desk(&words, i), zero_batch(1));
+        refused(tally, 1, &mut desk, &mut batch, right, &at);
+    }
+}
+
+/// Scratch that is taken, and scratch that is not.
+const SCRATCH: [[usize; 2]; 3] = [[6, 0], [1536, 1535], [3072, 3078]];
+
 /// Every choice of faults among the five that are asked in this order.
 fn order(tally: &mut Tally) {
-    for faults in 1..32_u32 {
-        let has = |i: u32| faults >> i & 1 == 1;
-        let cpi = if has(0) { 3 } else { 2 };
-        let mut batch = Lent::of(&vec![0; if has(1) { 8192 } else { 16_384 }]);
-        let scratch = if has(2) { 3071 } else { SCRATCH_WORDS };
-        let mut words = vec![0; if has(3) { MOST_WORDS + 1 } else { 8 }];
-        words[0] = if has(4) { 1 << 18 } else { 3 << 30 };
-        let numbers = [
-            SIZE,
-            BATCH_LENGTH,
-            SCRATCH_LENGTH,
-            LISTING_LENGTH,
-            MUST_BE_ZERO,
-        ];
-        let right = refusal(numbers[faults.trailing_zeros() as usize]);
-        let mut desk = Desk::with_scratch(&words, scratch, Numbers::for_test(64));
-        let at = || format!("faults {faults:05b}");
-        refused(tally, cpi, &mut desk, &mut batch, right, &at);
+    for [taken, other] in SCRATCH {
+        for faults in 1..32_u32 {
+            let has = |i: u32| faults >> i & 1 == 1;
+            let cpi = if has(0) { 3 } else { 2 };
+            let mut batch = Lent::of(&vec![0; if has(1) { 8192 } else { 16_384 }]);
+            let scratch = if has(2) { other } else { taken };
+            let mut words = vec![0; if has(3) { MOST_WORDS + 1 } else { 8 }];
+            words[0] = if has(4) { 1 << 18 } else { 3 << 30 };
+            let numbers = [
+                SIZE,
+                BATCH_LENGTH,
+                SCRATCH_LENGTH,
+                LISTING_LENGTH,
+                MUST_BE_ZERO,
+            ];
+            let right = refusal(numbers[faults.trailing_zeros() as usize]);
+            let mut desk = Desk::with_scratch(&words, scratch, Numbers::for_test(64));
+            let at = || format!("faults {faults:05b}, {scratch} words of scratch");
+            refused(tally, cpi, &mut desk, &mut batch, right, &at);
+        }
     }
 }
 
