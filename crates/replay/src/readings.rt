@@ -46,7 +46,8 @@ fn check(n: [u64; 8], cells: &[u64]) -> bool {
         return false;
     }
     let batch = part(cells, 0, count);
-    check_in(n, batch, &mut [1u64; 0xc00]) & check_in(n, batch, &mut [1u64; 6])
+    check_in(n, batch, &mut [1u64; layout::SCRATCH_MOST])
+        & check_in(n, batch, &mut [1u64; layout::SCRATCH_STEP])
 }
 
 // n: cpi, words of the batch, the answer.

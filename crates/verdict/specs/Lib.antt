@@ -2,7 +2,7 @@
 -- What a reader must believe:
 --     Row               what a row says of a cycle
 --     Check             the check: the constraints of all cycles in their order, the first that does not hold, and how many were tested
---     Scratch           what the check owes to its scratch: no more than question 5
+--     Scratch           what the check's answer takes from its scratch: nothing but question 5
 --     Apply             the sums of one row of a listing in one cycle of a batch
 --     Bits              the bit test
 --     Named             the columns that a row names: those of its terms whose coefficient is not zero

@@ -69,7 +69,8 @@ fn ask(cpi: usize, listing: &[u32], words: usize, room: usize) -> Asked
     }
 }
 
-// The check of a batch of cpi cycles against a listing. It needs no scratch of its own, and leaves the lent one zero.
+// The check of a batch of cpi cycles against a listing. No word of the lent scratch is read; a verdict leaves it zero, and a refusal as it
+// came.
 pub fn check_row(cpi: usize, listing: &[u32], batch: &[u64], scratch: &mut [u64]) -> CheckAnswer
     ensures { λ r. ⌜ _≡_ {A = Checked} (record { answer = r; scratch = now (scratch .exit) })
         (checked cpi (now (listing .entry)) (now (batch .entry)) (now (scratch .entry))) ⌝ }

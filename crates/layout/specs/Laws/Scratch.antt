@@ -1,4 +1,4 @@
--- Which scratch fits: any number of words that question 5 answers with yes, as document 02 says it and by numbers.
+-- Which lengths of scratch question 5 takes, as document 02 says it and by numbers.
 -- Assumes nothing.
 use mathlib.Core.Path.{_≡_, refl, ap, _∙_}
 use mathlib.Core.Logic.{_↔_}
@@ -28,17 +28,17 @@ fits-exactly words =
         let six : words ≡ m .0 * 6 = omega (arith, m .1) in
         eq-eqb (words % 6) 0 (ap (λ (n : ℕ). n % 6) six ∙ mul-mod-left (m .0) 6)
 
--- by numbers: the first two and the last two that fit, and lengths beside them that do not; the last is the largest multiple of 6 that a
--- length can be
+-- by numbers: the first two and the last two that fit, and others that do not: beside these, a multiple of 2 alone, one of 3 alone, and
+-- the largest multiple of 6 below 2^64
 pub record GivenLengths : Type 0 where
   pub fit : map scratchFits (6 ∷ 12 ∷ 3066 ∷ 3072 ∷ []) ≡ replicate 4 true
-  pub others : map scratchFits (0 ∷ 1 ∷ 5 ∷ 7 ∷ 3071 ∷ 3073 ∷ 3078 ∷ (2 ^ 64 - 4) ∷ []) ≡ replicate 8 false
+  pub others : map scratchFits (0 ∷ 1 ∷ 5 ∷ 7 ∷ 8 ∷ 9 ∷ 3071 ∷ 3073 ∷ 3078 ∷ (2 ^ 64 - 4) ∷ []) ≡ replicate 10 false
 
 pub given-lengths : GivenLengths
 unfolding scratchFits
 given-lengths = record { fit = refl; others = refl }
 
--- scratch of so many words that fit, one like the other
+-- scratch of a length that fits, every word of it x
 pub alike-fits : (words x : ℕ) → scratchFits words ≡ true → scratchFits (length (replicate words x)) ≡ true
 alike-fits words x h = ap scratchFits (length-replicate words x) ∙ h
 

@@ -20,7 +20,6 @@ use Rattle.circuit.specs.Circuit.{circuitWords}
 use Rattle.circuit.specs.Valid.{validated}
 use Rattle.verdict.specs.declared.Verdict.{Verdict}
 use Rattle.verdict.specs.declared.Verdict.the-variants.{Accepted, Failed}
-use Rattle.verdict.specs.declared.CheckAnswer.{CheckAnswer}
 use Rattle.verdict.specs.declared.CheckAnswer.the-variants.{Judged, Refused}
 use Rattle.verdict.specs.Check.{Checked, judged, asked, after, checked}
 use Rattle.verdict.specs.Scratch.{Call, AnyScratch}
@@ -84,6 +83,7 @@ any-scratch cpi listing batch =
           ∙ sym (ap (λ (c : Checked). c .answer) h ∙ answer-fits cpi listing batch t g);
       zero = zero-left cpi listing batch;
       kept = kept cpi listing batch;
+      fits = λ s f a u e. ap (λ (c : Checked). c .answer) e ∙ answer-fits cpi listing batch s f;
       other = λ s f a u e. ap (λ (c : Checked). c .answer) e ∙ answer-other cpi listing batch s f;
     }
 
@@ -102,7 +102,7 @@ pub record GivenScratch : Type 0 where
   pub seven : (listing : List ℕ) → Call 1 listing zeroRow (replicate 7 7) (Refused (no 5 0)) (replicate 7 7)
   pub past : (listing : List ℕ) → Call 1 listing zeroRow (replicate 3078 7) (Refused (no 5 0)) (replicate 3078 7)
 
--- a verdict that scratch gets wherever it fits, from words that are alike
+-- a verdict that is given wherever scratch fits: from so many words, all of them x
 alike : (cpi : ℕ) (batch : List ℕ) (words x : ℕ) (v : Verdict) → scratchFits words ≡ true
     → ((s : List ℕ) → scratchFits (length s) ≡ true
     → checked cpi circuitWords batch s ≡ record { answer = Judged v; scratch = replicate (length s) 0 })
