@@ -25,12 +25,12 @@ module _ (cpi : ℕ) (listing batch : List ℕ) where
     -- any two accepted lengths, whatever the words are: one answer, the count of rows tested included
     pub same : (s t : List ℕ) → scratchFits (length s) ≡ true → scratchFits (length t) ≡ true → (a b : CheckAnswer) (u v : List ℕ)
         → Call s a u → Call t b v → a ≡ b
-    -- zero after every verdict, and as it came after every refusal
-    pub zero : (s : List ℕ) (v : Verdict) (u : List ℕ) → Call s (Judged v) u → u ≡ replicate (length s) 0
-    pub kept : (s : List ℕ) (r : Refusal) (u : List ℕ) → Call s (Refused r) u → u ≡ s
     -- what that answer is: what questions 1, 2 and 6 to 10 refuse, or else the verdict on the batch
     pub fits : (s : List ℕ) → scratchFits (length s) ≡ true → (a : CheckAnswer) (u : List ℕ) → Call s a u
         → a ≡ ifYes Refused (batchAsked cpi (length batch)) (ifYes Refused (validated listing) (Judged (judged cpi listing batch)))
     -- every other length is refused: by 5, unless 1 or 2 refuses first, and whatever the listing is
     pub other : (s : List ℕ) → scratchFits (length s) ≡ false → (a : CheckAnswer) (u : List ℕ) → Call s a u
         → a ≡ ifYes Refused (batchAsked cpi (length batch)) (Refused (no 5 0))
+    -- zero after every verdict, and as it came after every refusal
+    pub zero : (s : List ℕ) (v : Verdict) (u : List ℕ) → Call s (Judged v) u → u ≡ replicate (length s) 0
+    pub kept : (s : List ℕ) (r : Refusal) (u : List ℕ) → Call s (Refused r) u → u ≡ s

@@ -81,10 +81,10 @@ any-scratch cpi listing batch =
       same = λ s t f g a b u v e h.
           ap (λ (c : Checked). c .answer) e ∙ answer-fits cpi listing batch s f
           ∙ sym (ap (λ (c : Checked). c .answer) h ∙ answer-fits cpi listing batch t g);
-      zero = zero-left cpi listing batch;
-      kept = kept cpi listing batch;
       fits = λ s f a u e. ap (λ (c : Checked). c .answer) e ∙ answer-fits cpi listing batch s f;
       other = λ s f a u e. ap (λ (c : Checked). c .answer) e ∙ answer-other cpi listing batch s f;
+      zero = zero-left cpi listing batch;
+      kept = kept cpi listing batch;
     }
 
 -- ---- given calls
