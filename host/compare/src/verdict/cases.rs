@@ -54,9 +54,12 @@ pub const CASES: [(Words, Over, Meant); 11] = [
     (Words::LastWrong, Over::Good, Err(MUST_BE_ZERO)),
 ];
 
+/// Those with a verdict.
+pub const JUDGED: usize = 9;
+
 /// Comparisons that `Case::new` makes for all of them: what each is meant to be, and where there is a
 /// verdict the original's.
-pub const OF_THE_CASES: u64 = 11 + 9;
+pub const OF_THE_CASES: u64 = (CASES.len() + JUDGED) as u64;
 
 /// A listing and a batch, and the answer where scratch is taken.
 pub struct Case {

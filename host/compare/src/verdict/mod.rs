@@ -53,4 +53,5 @@ pub fn batches_judged() -> usize {
         + each_column::batches_judged()
         + any_listing::batches_judged()
         + one_word::batches_judged()
+        + scratch::batches_judged()
 }

@@ -1,6 +1,6 @@
 //! Question 5: the lengths of scratch that the check takes, and that each gives the same verdict.
 
-use super::cases::{Case, CASES, OF_THE_CASES};
+use super::cases::{Case, CASES, JUDGED, OF_THE_CASES};
 use super::forms::FORMS;
 use crate::columns::SIZES;
 use crate::numbers::Numbers;
@@ -53,6 +53,11 @@ pub fn tests() -> Vec<Test> {
             special_words,
         ),
     ]
+}
+
+/// Each test makes its own, the second for each of eight sizes.
+pub fn batches_judged() -> usize {
+    10 * JUDGED
 }
 
 /// The lengths that question 5 lets pass, by document 02: six words, and six more each time.
