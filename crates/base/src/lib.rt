@@ -1,4 +1,6 @@
-// What is of no field and no layout, for every crate above: the loops that write words, for all arguments.
+// What is of no field and no layout, for every crate above: the loops that write words and compare them, for all arguments.
+ghost use mathlib.Core.Bool.{true};
+ghost use mathlib.Core.Logic.{_↔_};
 ghost use mathlib.Core.Path.{_≡_};
 ghost use lib.ListN.{length, replicate};
 ghost use Rattle.base.specs.Written.{Written, copied};
@@ -34,4 +36,21 @@ pub fn copy_at(words: &[u64], s: &mut [u64], start: usize)
         s[k] = words[k - start];
         k = k + 1;
     }
+}
+
+// Whether two lists of words are the same. No word ends the loop early: so the compiler compares several at a time.
+pub fn same_words(a: &[u32], b: &[u32]) -> bool
+    ensures { λ r. ⌜ (r ≡ true) ↔ (now (a .entry) ≡ now (b .entry)) ⌝ }
+{
+    let n = b.len();
+    if a.len() != n {
+        return false;
+    }
+    let mut different: u32 = 0;
+    let mut i: usize = 0;
+    while i < n {
+        different = different | (a[i] ^ b[i]);
+        i = i + 1;
+    }
+    different == 0
 }

@@ -11,12 +11,13 @@ use Rattle.verdict.specs.declared.Verdict.{Verdict}
 use Rattle.verdict.specs.declared.Verdict.the-variants.{Accepted, Failed}
 use Rattle.verdict.specs.declared.CheckAnswer.{CheckAnswer}
 use Rattle.verdict.specs.declared.CheckAnswer.the-variants.{Judged, Refused}
-use Rattle.verdict.specs.Check.{houseChecked}
+use Rattle.strict.specs.declared.Known.the-variants.{House}
+use Rattle.verdict.specs.Check.{knownChecked}
 use Rattle.cellprism.specs.Bytes.{rowOf}
 
 -- question 2 outside: 65,536 bytes, which are the 8,192 words of a batch of one cycle
 unfoldable pub rowChecked : List ℕ → CheckAnswer
-rowChecked bytes = cond (eqb (length bytes) 65536) (houseChecked 1 (rowOf bytes)) (Refused (no 2 0))
+rowChecked bytes = cond (eqb (length bytes) 65536) (knownChecked House 1 (rowOf bytes)) (Refused (no 2 0))
 
 -- kind 0, accepted: rows below; kind 1, failed: bit 29 the relation as in a mark, bits 8..0 the row. (The remainders are those of any
 -- verdict: of a row's they cut nothing off, by specs/Exact.antt.)

@@ -16,6 +16,7 @@ use Rattle.layout.specs.Batch.{geometryOf, mapped, scratchFits}
 use Rattle.layout.specs.Questions.{no}
 use Rattle.circuit.specs.declared.Relation.the-variants.{Bin, Fld}
 use Rattle.circuit.specs.Circuit.{circuitWords}
+use Rattle.strict.specs.declared.Known.the-variants.{House}
 use Rattle.verdict.specs.declared.Verdict.{Verdict}
 use Rattle.verdict.specs.declared.Verdict.the-variants.{Accepted, Failed}
 use Rattle.verdict.specs.declared.CheckAnswer.the-variants.{Judged}
@@ -46,7 +47,7 @@ Checks row v =
 pub record Filled (row : List ℕ) (v : Verdict) : Type 0 where
   pub fill : called 1 row .answer ≡ Yes
   pub check : Checks (called 1 row .batch) v
-  pub fill-check : fillChecked 1 row ≡ record { answer = Judged v; batch = called 1 row .batch }
+  pub fill-check : fillChecked House 1 row ≡ record { answer = Judged v; batch = called 1 row .batch }
 
 -- columns from the first to the last
 abbrev pub columns : ℕ → ℕ → List ℕ

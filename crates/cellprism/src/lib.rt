@@ -4,6 +4,7 @@ mod short;
 
 use circuit::Relation;
 use layout::Asked;
+use strict::Known;
 use verdict::CheckAnswer;
 use verdict::Verdict;
 ghost use mathlib.Core.Path.{_≡_};
@@ -58,7 +59,7 @@ pub fn check_bytes(bytes: &[u8]) -> CheckAnswer
     }
     let mut words = [0u64; layout::ROW_WORDS];
     bytes::read_words(bytes, &mut words);
-    verdict::check_house(1, &words)
+    verdict::check_known(Known::House, 1, &words)
 }
 
 // Reads the bytes of one row into its words: question 2, of both.

@@ -2,10 +2,12 @@
 use crate::bytes::word_at;
 use field::Gf128;
 use packed::sums::four;
+use strict::Known;
 ghost use mathlib.Core.Path.{_≡_};
 ghost use mathlib.Core.Logic.{_↔_};
 ghost use Prim.Native.Nat.{_+_, _*_, _<_};
 ghost use lib.ListN.{length, getD};
+ghost use Rattle.strict.specs.declared.Known.the-variants.{House};
 ghost use Rattle.verdict.specs.Row.{elementAt};
 ghost use Rattle.packed.specs.One.{rowSum, BitsFrom, InRow};
 ghost use Rattle.judge.specs.Short.{shortYes};
@@ -97,7 +99,7 @@ fn pack_words(bytes: &[u8], first: usize, last: usize, out: &mut [u64]) -> u64
 // Whether the row is seen to be accepted with no listing read.
 pub fn short_yes(bytes: &[u8]) -> bool
     requires { ⌜ length (now bytes) ≡ 65536 ⌝ }
-    ensures { λ r. ⌜ r ≡ shortYes 1 (rowOf (now (bytes .entry))) ⌝ }
+    ensures { λ r. ⌜ r ≡ shortYes House 1 (rowOf (now (bytes .entry))) ⌝ }
 {
     if !element(bytes, 2048).same(Gf128::one()) {
         return false;
@@ -108,5 +110,5 @@ pub fn short_yes(bytes: &[u8]) -> bool
     if low | high != 0 {
         return false;
     }
-    judge::judge_words(&out, element(bytes, 2049))
+    judge::judge_words(Known::House, &out, element(bytes, 2049))
 }

@@ -8,8 +8,6 @@ mod table;
 pub mod words;
 
 use crate::table::HOUSE;
-ghost use mathlib.Core.Bool.{true};
-ghost use mathlib.Core.Logic.{_↔_};
 ghost use mathlib.Core.Path.{_≡_};
 ghost use Rattle.circuit.specs.Circuit.{circuitWords};
 
@@ -50,21 +48,4 @@ pub fn build_circuit() -> [u32; 3499]
     ensures { λ r. ⌜ r ≡ circuitWords ⌝ }
 {
     HOUSE
-}
-
-// Whether a listing is the house listing, word by word. No word ends the loop early: so the compiler compares several at a time.
-pub fn is_house(listing: &[u32]) -> bool
-    ensures { λ r. ⌜ (r ≡ true) ↔ (now (listing .entry) ≡ circuitWords) ⌝ }
-{
-    if listing.len() != 3499 {
-        return false;
-    }
-    let table = build_circuit();
-    let mut different: u32 = 0;
-    let mut i: usize = 0;
-    while i < 3499 {
-        different = different | (listing[i] ^ table[i]);
-        i = i + 1;
-    }
-    different == 0
 }

@@ -11,6 +11,8 @@ use Rattle.layout.specs.declared.Asked.the-variants.{Yes, No}
 use Rattle.layout.specs.Questions.{Called}
 use Rattle.circuit.specs.declared.Relation.{Relation}
 use Rattle.circuit.specs.declared.Relation.the-variants.{Bin, Fld}
+use Rattle.strict.specs.declared.Known.{Known}
+use Rattle.strict.specs.declared.Known.the-variants.{House, Strict}
 use Rattle.verdict.specs.declared.Verdict.{Verdict}
 use Rattle.verdict.specs.declared.Verdict.the-variants.{Accepted, Failed}
 use Rattle.verdict.specs.declared.CheckAnswer.{CheckAnswer}
@@ -52,6 +54,10 @@ checkReply c = reply (checkNumber (c .answer)) (c .scratch)
 
 abbrev pub fillCheckReply : FillChecked → Reply
 fillCheckReply c = reply (checkNumber (c .answer)) (c .batch)
+
+-- 0 is the house listing, any other number the strict one
+abbrev pub chosenListing : ℕ → Known
+chosenListing n = cond (eqb n 0) House Strict
 
 -- 0 is bin, any other number fld
 abbrev pub chosenRelation : ℕ → Relation

@@ -3,14 +3,15 @@ ghost use mathlib.Core.Path.{_≡_};
 ghost use mathlib.Core.List.{_++_};
 ghost use Prim.Native.Nat.{_+_, _<_, _≤_, _^_};
 ghost use lib.ListN.{length, drop};
-ghost use Rattle.verdict.specs.Check.{checked, houseChecked};
+ghost use Rattle.verdict.specs.Check.{checked, knownChecked};
 ghost use Rattle.verdict.specs.Apply.{applied};
 ghost use Rattle.verdict.specs.Bits.{bitTested};
 ghost use Rattle.judge.specs.FillCheck.{fillChecked};
 ghost use Rattle.compare.specs.Numbers.{keptPlace, refusedAt, byRelation};
-ghost use Rattle.compare.specs.Replies.{verdictNumber, checkNumber, reply, checkReply, fillCheckReply, chosenRelation, sumWords, sumsReply, applyReply, bitNumber};
+ghost use Rattle.compare.specs.Replies.{verdictNumber, checkNumber, reply, checkReply, fillCheckReply, chosenListing, chosenRelation, sumWords, sumsReply, applyReply, bitNumber};
 use circuit::Relation;
 use layout::Refusal;
+use strict::Known;
 use verdict::ApplyAnswer;
 use verdict::CheckAnswer;
 use verdict::Sums;
@@ -87,22 +88,29 @@ pub extern "C" fn compare_check_row(
     check_number(verdict::check_row(cpi, listing, batch, scratch))
 }
 
+// Here and below, which 0 is the house listing, any other number the strict one.
+pub fn chosen_listing(n: u32) -> Known
+    ensures { λ r. ⌜ r ≡ chosenListing n ⌝ }
+{
+    if n == 0 { Known::House } else { Known::Strict }
+}
+
 #[no_mangle]
-pub extern "C" fn compare_check_house(way: u32, cpi: usize, batch: &[u64]) -> u64
-    ensures { λ r. ⌜ r ≡ checkNumber (houseChecked cpi (now (batch .entry))) ⌝ }
+pub extern "C" fn compare_check_known(which: u32, way: u32, cpi: usize, batch: &[u64]) -> u64
+    ensures { λ r. ⌜ r ≡ checkNumber (knownChecked (chosenListing which) cpi (now (batch .entry))) ⌝ }
 {
     if way == 0 {
-        return check_number(judge::check_house(cpi, batch));
+        return check_number(judge::check_known(chosen_listing(which), cpi, batch));
     }
-    check_number(verdict::check_house(cpi, batch))
+    check_number(verdict::check_known(chosen_listing(which), cpi, batch))
 }
 
 // A batch is filled and then checked, in one call.
 #[no_mangle]
-pub extern "C" fn compare_fill_and_check(cpi: usize, batch: &mut [u64]) -> u64
-    ensures { λ r. ⌜ reply r (now (batch .exit)) ≡ fillCheckReply (fillChecked cpi (now (batch .entry))) ⌝ }
+pub extern "C" fn compare_fill_and_check(which: u32, cpi: usize, batch: &mut [u64]) -> u64
+    ensures { λ r. ⌜ reply r (now (batch .exit)) ≡ fillCheckReply (fillChecked (chosenListing which) cpi (now (batch .entry))) ⌝ }
 {
-    check_number(judge::fill_and_check(cpi, batch))
+    check_number(judge::fill_and_check(chosen_listing(which), cpi, batch))
 }
 
 pub fn chosen_relation(n: u32) -> Relation

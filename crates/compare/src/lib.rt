@@ -17,12 +17,13 @@ ghost use Prim.Native.Nat.{_<_, _^_};
 ghost use Rattle.field.specs.Gf.{ofWords, added, product, shifted, power};
 ghost use Rattle.base.specs.Bits.{digit};
 ghost use Rattle.layout.specs.Batch.{exponentOf, scratchFits, geometryOf, mapped, unmapped};
-ghost use Rattle.circuit.specs.Circuit.{circuitWords};
+ghost use Rattle.strict.specs.Known.{listingOf};
 ghost use Rattle.circuit.specs.Batched.{batched, unmappedRow};
 ghost use lib.ListN.{getD};
 ghost use Rattle.compare.specs.Numbers.{oneOf, wordOf, geometryPart, geometryNumber, columnNumber, cycleColumnNumber, cycleRowNumber, coefficientNumber, markNumber, batchNumber};
-ghost use Rattle.compare.specs.Replies.{chosenRelation};
+ghost use Rattle.compare.specs.Replies.{chosenListing, chosenRelation};
 use crate::check::by_relation;
+use crate::check::chosen_listing;
 use crate::check::chosen_relation;
 use crate::check::refused_at;
 use circuit::Coefficient;
@@ -34,6 +35,7 @@ use layout::ColumnAnswer;
 use layout::CycleColumnAnswer;
 use layout::GeometryAnswer;
 use layout::InstanceGeometry;
+use strict::Known;
 
 // The first number for part 0, else the second.
 pub fn one_of(part: u32, first: u64, second: u64) -> u64
@@ -170,12 +172,27 @@ pub extern "C" fn compare_row_way_back(
     }
 }
 
-#[no_mangle]
-pub extern "C" fn compare_listing_word(i: usize) -> u32
-    ensures { λ r. ⌜ r ≡ getD circuitWords i 0 ⌝ }
+// Word i, or 0 past the end.
+fn word_or_zero(words: &[u32], i: usize) -> u32
+    ensures { λ r. ⌜ r ≡ getD (now (words .entry)) i 0 ⌝ }
 {
-    let words = circuit::build_circuit();
-    if i < 3499 { words[i] } else { 0 }
+    if i < words.len() { words[i] } else { 0 }
+}
+
+#[no_mangle]
+pub extern "C" fn compare_listing_word(which: u32, i: usize) -> u32
+    ensures { λ r. ⌜ r ≡ getD (listingOf (chosenListing which)) i 0 ⌝ }
+{
+    match chosen_listing(which) {
+        Known::House => {
+            let words = circuit::build_circuit();
+            word_or_zero(&words, i)
+        }
+        Known::Strict => {
+            let words = strict::build_strict();
+            word_or_zero(&words, i)
+        }
+    }
 }
 
 // 2^k is its exponent, zero is 255.

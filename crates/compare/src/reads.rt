@@ -4,8 +4,10 @@ ghost use mathlib.Core.Logic.{_↔_};
 ghost use mathlib.Core.Path.{_≡_};
 ghost use Prim.Native.Nat.{_<_};
 ghost use lib.ListN.{length, replicate};
-ghost use Rattle.circuit.specs.Circuit.{circuitWords};
+ghost use Rattle.strict.specs.Known.{listingOf};
 ghost use Rattle.compare.specs.Reads.{ored};
+ghost use Rattle.compare.specs.Replies.{chosenListing};
+use crate::check::chosen_listing;
 
 // A loop that joins all it reads has to read all of it.
 #[no_mangle]
@@ -48,10 +50,14 @@ pub extern "C" fn compare_clear(scratch: &mut [u64])
     verdict::clear(scratch)
 }
 
-// 1 where a listing is the house listing, else 0.
+// 1 where a listing is the one that is named, else 0.
 #[no_mangle]
-pub extern "C" fn compare_is_house(listing: &[u32]) -> u64
-    ensures { λ r. ⌜ (r < 2) × ((r ≡ 1) ↔ (now (listing .entry) ≡ circuitWords)) ⌝ }
+pub extern "C" fn compare_is_known(which: u32, listing: &[u32]) -> u64
+    ensures { λ r. ⌜ (r < 2) × ((r ≡ 1) ↔ (now (listing .entry) ≡ listingOf (chosenListing which))) ⌝ }
 {
-    if circuit::is_house(listing) { 1 } else { 0 }
+    if strict::is_known(chosen_listing(which), listing) {
+        1
+    } else {
+        0
+    }
 }

@@ -13,6 +13,8 @@ use Rattle.field.specs.declared.Gf128.{Gf128}
 use Rattle.field.specs.Gf.{ofWords, same}
 use Rattle.layout.specs.Columns.{ONE-COL, RS1, RD, LOAD-VAL, SHIFT-OUT, T1, T2, ALU, FLAGS, OFF, SUB, WE, IS-LOAD, IS-STORE, IS-ARITH, IS-SHIFT, LD-BYTE, LD-HALF, LD-WORD, RAM-ADDR}
 use Rattle.layout.specs.Questions.{no, ifYes}
+use Rattle.strict.specs.declared.Known.{Known}
+use Rattle.strict.specs.declared.Known.the-variants.{House, Strict}
 use Rattle.verdict.specs.Row.{cycleOf, bitsOf}
 use Rattle.step.specs.Step.{opcode, offset}
 use Rattle.step.specs.Fill.{fillAsked}
@@ -121,6 +123,14 @@ module _ (w : StepWords) (f : StepFlags) where
   abbrev pub address : Bool
   address = (f .gates .load ⊻ f .«is_store») ⇒ eqb (f .«ram_addr») (w .alu / 2 ^ 3 % 2 ^ 8)
 
+-- the strict conditions on the flags (document 02, request 6): no cycle both loads and stores, and it has as many widths as loads
+module _ (f : StepFlags) where
+  abbrev pub apart : Bool
+  apart = not (f .gates .load && f .«is_store»)
+
+  abbrev pub oneWidth : Bool
+  oneWidth = eqb (digit (f .gates .byte) + digit (f .gates .half) + digit (f .gates .whole)) (digit (f .gates .load))
+
 abbrev pub system : StepWords → Gf128 → Bool
 system w output = eqb (w .opcode) 0x73 ⇒ eqb (w .rd) (w .rs1) && same output (ofWords (w .rd) 0)
 
@@ -129,6 +139,11 @@ unfoldable pub conditions : StepWords → StepFlags → Gf128 → List Bool
 conditions w f output =
     arithmetic w f ∷ shift w f ∷ write w f ∷ system w output ∷ loadWord w f
     ∷ loadByte w f ∷ loadHalf w f ∷ upperZero w f ∷ secondZero w f ∷ address w f ∷ []
+
+-- what a known listing's rows come to: the strict one's to two tests more
+abbrev pub conditionsOf : Known → StepWords → StepFlags → Gf128 → List Bool
+conditionsOf House w f output = conditions w f output
+conditionsOf Strict w f output = apart f ∷ oneWidth f ∷ conditions w f output
 
 -- all of them are met
 abbrev pub allTrue : List Bool → Bool

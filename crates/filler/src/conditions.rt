@@ -21,12 +21,13 @@ use layout::Refusal;
 use layout::columns::ONE_COL;
 use layout::columns::RD;
 use layout::columns::SHIFT_OUT;
+use strict::Known;
 ghost use mathlib.Core.Path.{_≡_};
 ghost use Prim.Native.Nat.{_+_, _<_};
 ghost use Rattle.layout.specs.Columns.{ONE-COL};
 ghost use Rattle.verdict.specs.Row.{cycleOf, bitsOf};
 ghost use Rattle.verdict.specs.Promises.{Cycle};
-ghost use Rattle.filler.specs.Met.{byteOf, arithmetic, shift, write, system, loadWord, loadByte, loadHalf, upperZero, secondZero, address, conditions, allTrue, firstFalse, firstUnmet, stepWords, flagsIn, stepAnswer};
+ghost use Rattle.filler.specs.Met.{byteOf, arithmetic, shift, write, system, loadWord, loadByte, loadHalf, upperZero, secondZero, address, apart, oneWidth, conditions, conditionsOf, allTrue, firstFalse, firstUnmet, stepWords, flagsIn, stepAnswer};
 
 // Every condition is met, or the number of the first that is not.
 pub enum StepAnswer {
@@ -131,6 +132,20 @@ fn address(w: StepWords, f: StepFlags) -> bool
     !xor(f.gates.load, f.is_store) | (f.ram_addr == (w.alu >> 3) % 256)
 }
 
+// Of the strict conditions (document 02, request 6): no cycle both loads and stores.
+fn apart(f: StepFlags) -> bool
+    ensures { λ r. ⌜ r ≡ apart f ⌝ }
+{
+    !(f.gates.load & f.is_store)
+}
+
+// A loading cycle has exactly one width, and others have none: as many widths as loads.
+fn one_width(f: StepFlags) -> bool
+    ensures { λ r. ⌜ r ≡ oneWidth f ⌝ }
+{
+    word_of(f.gates.byte) + word_of(f.gates.half) + word_of(f.gates.whole) == word_of(f.gates.load)
+}
+
 // The ten, in document 01's order.
 fn conditions(w: StepWords, f: StepFlags, output: Gf128) -> [bool; 10]
     requires { ⌜ f .off < 8 ⌝ }
@@ -194,13 +209,26 @@ fn flags_in(w: u64) -> StepFlags
     }
 }
 
-// Whether all ten are met, with no branch between the tests; `flags` is the word of columns 768 on.
-pub fn meets_all(w: StepWords, flags: u64, output: Gf128) -> bool
-    ensures { λ r. ⌜ r ≡ allTrue (conditions w (flagsIn flags) output) ⌝ }
+// Whether all ten are met, with no branch between the tests.
+fn meets_ten(w: StepWords, f: StepFlags, output: Gf128) -> bool
+    requires { ⌜ f .off < 8 ⌝ }
+    ensures { λ r. ⌜ r ≡ allTrue (conditions w f output) ⌝ }
 {
-    let met = conditions(w, flags_in(flags), output);
+    let met = conditions(w, f, output);
     let loads = met[4] & (met[5] & (met[6] & (met[7] & (met[8] & met[9]))));
     met[0] & (met[1] & (met[2] & (met[3] & loads)))
+}
+
+// Whether all conditions of a known listing are met; `flags` is the word of columns 768 on.
+pub fn meets_all(which: Known, w: StepWords, flags: u64, output: Gf128) -> bool
+    ensures { λ r. ⌜ r ≡ allTrue (conditionsOf which w (flagsIn flags) output) ⌝ }
+{
+    let f = flags_in(flags);
+    let ten = meets_ten(w, f, output);
+    match which {
+        Known::House => ten,
+        Known::Strict => apart(f) & (one_width(f) & ten),
+    }
 }
 
 // Of a cycle of the batch. The public element behind the one column is the same for every cycle.

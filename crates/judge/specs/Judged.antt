@@ -1,4 +1,5 @@
--- A cycle judged with no listing read: it meets the ten step conditions, and every derived column holds what the filler would write.
+-- A cycle judged with no listing read: it meets the conditions of a known listing, and every derived column holds what the filler would
+-- write.
 -- Assumes nothing.
 use mathlib.Core.Path.{_≡_}
 use mathlib.Core.Bool.{Bool, true, _&&_}
@@ -9,10 +10,11 @@ use Rattle.base.specs.Bits.{word}
 use Rattle.base.specs.Blocks.{Block}
 use Rattle.field.specs.declared.Gf128.{Gf128}
 use Rattle.layout.specs.Columns.{ONE-COL, RS1, RS2, LOAD-VAL, T1, T2, ALU, FLAGS, FETCH}
+use Rattle.strict.specs.declared.Known.{Known}
 use Rattle.verdict.specs.Row.{cycleOf, bitsOf}
 use Rattle.filler.specs.declared.derive.GivenWords.{GivenWords}
 use Rattle.filler.specs.Words.{derivedWords, blocks}
-use Rattle.filler.specs.Met.{wordsOf, flagsOf, conditions, allTrue}
+use Rattle.filler.specs.Met.{wordsOf, flagsOf, conditionsOf, allTrue}
 
 -- the words of a cycle that its derived columns depend on
 abbrev pub givenOf : (ℕ → Bool) → GivenWords
@@ -38,10 +40,10 @@ allWritten b [] = true
 allWritten b (k ∷ ks) = isWritten b k && allWritten b ks
 
 -- of a cycle's bits, and of the public element one_col + 1
-unfoldable pub judgedCycle : (ℕ → Bool) → Gf128 → Bool
-judgedCycle b output =
-    allTrue (conditions (wordsOf b) (flagsOf b) output) && allWritten b (blocks (givenOf b) (derivedWords (givenOf b)))
+unfoldable pub judgedCycle : Known → (ℕ → Bool) → Gf128 → Bool
+judgedCycle k b output =
+    allTrue (conditionsOf k (wordsOf b) (flagsOf b) output) && allWritten b (blocks (givenOf b) (derivedWords (givenOf b)))
 
 -- every cycle of a batch is judged with yes
-abbrev pub JudgedYes : ℕ → List ℕ → Type 0
-JudgedYes cpi batch = (d : ℕ) → d < cpi → judgedCycle (bitsOf cpi batch d) (cycleOf cpi batch d (ONE-COL + 1)) ≡ true
+abbrev pub JudgedYes : Known → ℕ → List ℕ → Type 0
+JudgedYes k cpi batch = (d : ℕ) → d < cpi → judgedCycle k (bitsOf cpi batch d) (cycleOf cpi batch d (ONE-COL + 1)) ≡ true

@@ -8,9 +8,10 @@ use lib.Dec.{eqb}
 use lib.ListN.{getD}
 use Rattle.base.specs.Blocks.{Block}
 use Rattle.field.specs.declared.Gf128.{Gf128}
+use Rattle.strict.specs.declared.Known.{Known}
 use Rattle.filler.specs.declared.derive.GivenWords.{GivenWords}
 use Rattle.filler.specs.Words.{derivedWords, blocks}
-use Rattle.filler.specs.Met.{stepWords, flagsIn, conditions, allTrue}
+use Rattle.filler.specs.Met.{stepWords, flagsIn, conditionsOf, allTrue}
 
 -- the words of a list from a place on
 abbrev pub wordsFrom : List ℕ → ℕ → ℕ → ℕ
@@ -34,12 +35,12 @@ allWrittenIn ws [] = true
 allWrittenIn ws (k ∷ ks) = isWrittenIn ws k && allWrittenIn ws ks
 
 -- of a cycle's words, and of the public element one_col + 1; the conditions read RD and SHIFT_OUT too
-unfoldable pub judgedWords : (ℕ → ℕ) → Gf128 → Bool
-judgedWords ws output =
-    allTrue (conditions (stepWords (givenIn ws) (ws 2) (ws 4)) (flagsIn (ws 12)) output)
+unfoldable pub judgedWords : Known → (ℕ → ℕ) → Gf128 → Bool
+judgedWords k ws output =
+    allTrue (conditionsOf k (stepWords (givenIn ws) (ws 2) (ws 4)) (flagsIn (ws 12)) output)
     && allWrittenIn ws (blocks (givenIn ws) (derivedWords (givenIn ws)))
 
 -- of cycles d, d + 1 .. d + n - 1, 32 words each
-unfoldable pub allJudged : List ℕ → Gf128 → ℕ → ℕ → Bool
-allJudged list output zero d = true
-allJudged list output (suc n) d = judgedWords (wordsFrom list (32 * d)) output && allJudged list output n (d + 1)
+unfoldable pub allJudged : Known → List ℕ → Gf128 → ℕ → ℕ → Bool
+allJudged k list output zero d = true
+allJudged k list output (suc n) d = judgedWords k (wordsFrom list (32 * d)) output && allJudged k list output n (d + 1)

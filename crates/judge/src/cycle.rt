@@ -6,6 +6,7 @@ use filler::derive::DerivedWords;
 use filler::derive::GivenWords;
 use filler::derive::derive;
 use filler::derive::taken_bit;
+use strict::Known;
 ghost use mathlib.Core.Path.{_≡_};
 ghost use Prim.Native.Nat.{_+_, _*_, _<_, _≤_};
 ghost use lib.ListN.{length};
@@ -104,26 +105,26 @@ fn read_given(words: &[u64], at: usize) -> GivenWords
     }
 }
 
-// The ten conditions, and whether every derived column holds what the filler would write.
-pub fn judge_cycle(words: &[u64], at: usize, output: Gf128) -> bool
+// The conditions of a known listing, and whether every derived column holds what the filler would write.
+pub fn judge_cycle(which: Known, words: &[u64], at: usize, output: Gf128) -> bool
     requires { ⌜ at + 32 ≤ length (now words) ⌝ }
-    ensures { λ r. ⌜ r ≡ judgedWords (wordsFrom (now (words .entry)) at) output ⌝ }
+    ensures { λ r. ⌜ r ≡ judgedWords which (wordsFrom (now (words .entry)) at) output ⌝ }
 {
     let g = read_given(words, at);
     let rd = word_at(words, at, 2);
     let w = step_words(g, rd, word_at(words, at, 4));
-    let met = meets_all(w, g.flags, output);
+    let met = meets_all(which, w, g.flags, output);
     met & derived_written(words, at, g, derive(g))
 }
 
 // Cycle after cycle, 32 words each.
-pub fn judge_cycles(cpi: usize, words: &[u64], output: Gf128) -> bool
+pub fn judge_cycles(which: Known, cpi: usize, words: &[u64], output: Gf128) -> bool
     requires { ⌜ (cpi ≤ 256) × (length (now words) ≡ 32 * cpi) ⌝ }
-    ensures { λ r. ⌜ r ≡ allJudged (now (words .entry)) output cpi 0 ⌝ }
+    ensures { λ r. ⌜ r ≡ allJudged which (now (words .entry)) output cpi 0 ⌝ }
 {
     let mut cycle: usize = 0;
     while cycle < cpi {
-        if !judge_cycle(words, 32 * cycle, output) {
+        if !judge_cycle(which, words, 32 * cycle, output) {
             return false;
         }
         cycle = cycle + 1;

@@ -4,6 +4,7 @@ use crate::cycle::judge_cycles;
 use field::Gf128;
 use layout::Asked;
 use packed::Packing;
+use strict::Known;
 ghost use mathlib.Core.Bool.{true};
 ghost use mathlib.Core.Logic.{_↔_};
 ghost use mathlib.Core.Path.{_≡_};
@@ -34,60 +35,60 @@ fn pack(cpi: usize, batch: &[u64], out: &mut [u64]) -> Packing
 }
 
 // Packs the batch into a slice that is lent, and judges each cycle.
-fn pack_and_judge(cpi: usize, batch: &[u64], out: &mut [u64]) -> bool
+fn pack_and_judge(which: Known, cpi: usize, batch: &[u64], out: &mut [u64]) -> bool
     requires { ⌜ NamedIn cpi (now batch) (now out) ⌝ }
-    ensures { λ r. ⌜ r ≡ shortBits cpi (now (batch .entry)) (now (out .entry)) ⌝ }
+    ensures { λ r. ⌜ r ≡ shortBits which cpi (now (batch .entry)) (now (out .entry)) ⌝ }
 {
     match pack(cpi, batch, out) {
-        Packing::Bits => judge_cycles(cpi, out, element(batch, 2048 * cpi + 1)),
+        Packing::Bits => judge_cycles(which, cpi, out, element(batch, 2048 * cpi + 1)),
         Packing::NotBits => false,
         Packing::Refused(_) => false,
     }
 }
 
-fn short_one(batch: &[u64]) -> bool
+fn short_one(which: Known, batch: &[u64]) -> bool
     requires { ⌜ ShortIn 1 (now batch) ⌝ }
-    ensures { λ r. ⌜ r ≡ shortBits 1 (now (batch .entry)) (replicate 32 0) ⌝ }
+    ensures { λ r. ⌜ r ≡ shortBits which 1 (now (batch .entry)) (replicate 32 0) ⌝ }
 {
     let mut out = [0u64; 32];
-    pack_and_judge(1, batch, &mut out)
+    pack_and_judge(which, 1, batch, &mut out)
 }
 
-fn short_small(cpi: usize, batch: &[u64]) -> bool
+fn short_small(which: Known, cpi: usize, batch: &[u64]) -> bool
     requires { ⌜ ShortIn cpi (now batch) × (cpi < 17) ⌝ }
-    ensures { λ r. ⌜ r ≡ shortBits cpi (now (batch .entry)) (replicate (32 * cpi) 0) ⌝ }
+    ensures { λ r. ⌜ r ≡ shortBits which cpi (now (batch .entry)) (replicate (32 * cpi) 0) ⌝ }
 {
     let mut out = [0u64; 512];
     let words = 32 * cpi;
-    pack_and_judge(cpi, batch, &mut out[..words])
+    pack_and_judge(which, cpi, batch, &mut out[..words])
 }
 
-fn short_large(cpi: usize, batch: &[u64]) -> bool
+fn short_large(which: Known, cpi: usize, batch: &[u64]) -> bool
     requires { ⌜ ShortIn cpi (now batch) ⌝ }
-    ensures { λ r. ⌜ r ≡ shortBits cpi (now (batch .entry)) (replicate (32 * cpi) 0) ⌝ }
+    ensures { λ r. ⌜ r ≡ shortBits which cpi (now (batch .entry)) (replicate (32 * cpi) 0) ⌝ }
 {
     let mut out = [0u64; 8192]; // 32 words for each of 256 cycles
     let words = 32 * cpi;
-    pack_and_judge(cpi, batch, &mut out[..words])
+    pack_and_judge(which, cpi, batch, &mut out[..words])
 }
 
 // By the size, so that a small batch clears a small slice.
-fn short_bits(cpi: usize, batch: &[u64]) -> bool
+fn short_bits(which: Known, cpi: usize, batch: &[u64]) -> bool
     requires { ⌜ ShortIn cpi (now batch) ⌝ }
-    ensures { λ r. ⌜ r ≡ shortBits cpi (now (batch .entry)) (replicate (32 * cpi) 0) ⌝ }
+    ensures { λ r. ⌜ r ≡ shortBits which cpi (now (batch .entry)) (replicate (32 * cpi) 0) ⌝ }
 {
     if cpi == 1 {
-        return short_one(batch);
+        return short_one(which, batch);
     }
     if cpi < 17 {
-        return short_small(cpi, batch);
+        return short_small(which, cpi, batch);
     }
-    short_large(cpi, batch)
+    short_large(which, cpi, batch)
 }
 
-// Of a batch against the house listing.
-pub fn short_yes(cpi: usize, batch: &[u64]) -> bool
-    ensures { λ r. ⌜ r ≡ shortYes cpi (now (batch .entry)) ⌝ }
+// Of a batch against a known listing.
+pub fn short_yes(which: Known, cpi: usize, batch: &[u64]) -> bool
+    ensures { λ r. ⌜ r ≡ shortYes which cpi (now (batch .entry)) ⌝ }
 {
     match layout::ask_batch(cpi, batch.len()) {
         Asked::No(_) => false,
@@ -95,20 +96,20 @@ pub fn short_yes(cpi: usize, batch: &[u64]) -> bool
             if !element(batch, 2048 * cpi).same(Gf128::one()) {
                 return false;
             }
-            short_bits(cpi, batch)
+            short_bits(which, cpi, batch)
         }
     }
 }
 
-// Of a call that lends a listing and scratch.
-pub fn short_row(cpi: usize, listing: &[u32], batch: &[u64], room: usize) -> bool
-    ensures { λ r. ⌜ (r ≡ true) ↔ ShortRow cpi (now (listing .entry)) (now (batch .entry)) room ⌝ }
+// Of a call that lends a listing, which has to be the known one, and scratch.
+pub fn short_row(which: Known, cpi: usize, listing: &[u32], batch: &[u64], room: usize) -> bool
+    ensures { λ r. ⌜ (r ≡ true) ↔ ShortRow which cpi (now (listing .entry)) (now (batch .entry)) room ⌝ }
 {
     if !layout::scratch_fits(room) {
         return false;
     }
-    if !circuit::is_house(listing) {
+    if !strict::is_known(which, listing) {
         return false;
     }
-    short_yes(cpi, batch)
+    short_yes(which, cpi, batch)
 }

@@ -29,6 +29,10 @@
 --     Sides             what a side of a row adds up to over bits, where the one column is 1
 --     Solvable          when a row can be solved for a column, as a test that computes, and what a row that passes it says of its target
 --     Step              OFF and funct3 have three bits
+--     Strict            the strict listing's eight rows say of the flags what the strict conditions say: `meaning`
+--     StrictFlags       the strict conditions at work: all 32 choices of the five flags, of every size and in every cycle
+--     StrictNames       where flags are wrong, the strict listing's verdict on the filler's batch names the first such cycle and row
+--     Stricter          what the strict listing accepts the house listing accepts: `stricter`
 --     Taken             halt and taken where the determining rows hold
 --     Unique            rows that can be solved in turn: `solve` meets them, and nothing else does
 pub mod Alone
@@ -61,5 +65,9 @@ pub mod Sheet
 pub mod Sides
 pub mod Solvable
 pub mod Step
+pub mod Strict
+pub mod StrictFlags
+pub mod StrictNames
+pub mod Stricter
 pub mod Taken
 pub mod Unique

@@ -13,10 +13,11 @@ use Rattle.layout.specs.Questions.{no, ifYes}
 use Rattle.circuit.specs.declared.Relation.{Relation}
 use Rattle.circuit.specs.declared.Relation.the-variants.{Bin, Fld}
 use Rattle.circuit.specs.Rows.{Row}
-use Rattle.circuit.specs.Circuit.{circuitWords}
 use Rattle.circuit.specs.Parse.{rowsOf}
 use Rattle.circuit.specs.Batched.{batchRow}
 use Rattle.circuit.specs.Valid.{validated}
+use Rattle.strict.specs.declared.Known.{Known}
+use Rattle.strict.specs.Known.{listingOf}
 use Rattle.verdict.specs.declared.Verdict.{Verdict}
 use Rattle.verdict.specs.declared.Verdict.the-variants.{Accepted, Failed}
 use Rattle.verdict.specs.declared.CheckAnswer.{CheckAnswer}
@@ -84,6 +85,6 @@ unfoldable pub checked : ℕ → List ℕ → List ℕ → List ℕ → Checked
 checked cpi listing batch scratch =
     after (asked cpi listing (length batch) (length scratch)) (judged cpi listing batch) scratch
 
--- the same over the house listing, which is in order, and with no scratch: questions 1 and 2
-unfoldable pub houseChecked : ℕ → List ℕ → CheckAnswer
-houseChecked cpi batch = ifYes Refused (batchAsked cpi (length batch)) (Judged (judged cpi circuitWords batch))
+-- the same over a listing that is known by name, which is in order, and with no scratch: questions 1 and 2
+unfoldable pub knownChecked : Known → ℕ → List ℕ → CheckAnswer
+knownChecked k cpi batch = ifYes Refused (batchAsked cpi (length batch)) (Judged (judged cpi (listingOf k) batch))

@@ -9,12 +9,15 @@ use circuit::search::Found;
 use field::Gf128;
 use layout::Asked;
 use layout::Refusal;
+use strict::Known;
+ghost use mathlib.Core.Bool.{true};
 ghost use mathlib.Core.Path.{_≡_};
 ghost use Prim.Native.Nat.{_≤_};
 ghost use lib.ListN.{length, replicate};
-ghost use Rattle.layout.specs.Batch.{batchWords};
+ghost use Rattle.layout.specs.Batch.{allowed, batchWords};
+ghost use Rattle.strict.specs.Known.{listingOf};
 ghost use Rattle.verdict.specs.Apply.{RowFound, appliedAt, appliedTo, applied};
-ghost use Rattle.verdict.specs.Check.{Checked, asked, checked, houseChecked};
+ghost use Rattle.verdict.specs.Check.{Checked, asked, judged, checked, knownChecked};
 
 // A verdict: `rows` counts the cycle-and-mark pairs that were tested, the failing one included; `row` is the batch row, 512 · d + r in
 // bin and 32 · d + r in fld.
@@ -84,16 +87,30 @@ pub fn check_row(cpi: usize, listing: &[u32], batch: &[u64], scratch: &mut [u64]
     }
 }
 
-// The check against the house listing, which is known to be in order: questions 1 and 2 are all there is to ask.
-pub fn check_house(cpi: usize, batch: &[u64]) -> CheckAnswer
-    ensures { λ r. ⌜ r ≡ houseChecked cpi (now (batch .entry)) ⌝ }
+// The verdict over the listing that is named, of a batch whose size is in order.
+fn walk_known(which: Known, cpi: usize, batch: &[u64]) -> Verdict
+    requires { ⌜ (allowed cpi ≡ true) × (length (now batch) ≡ batchWords cpi) ⌝ }
+    ensures { λ r. ⌜ r ≡ judged cpi (listingOf which) (now (batch .entry)) ⌝ }
+{
+    match which {
+        Known::House => {
+            let listing = circuit::build_circuit();
+            walk::walk(cpi, &listing, batch)
+        }
+        Known::Strict => {
+            let listing = strict::build_strict();
+            walk::walk(cpi, &listing, batch)
+        }
+    }
+}
+
+// The check against a listing that is named, which is known to be in order: questions 1 and 2 are all there is to ask.
+pub fn check_known(which: Known, cpi: usize, batch: &[u64]) -> CheckAnswer
+    ensures { λ r. ⌜ r ≡ knownChecked which cpi (now (batch .entry)) ⌝ }
 {
     match layout::ask_batch(cpi, batch.len()) {
         Asked::No(r) => CheckAnswer::Refused(r),
-        Asked::Yes => {
-            let listing = circuit::build_circuit();
-            CheckAnswer::Judged(walk::walk(cpi, &listing, batch))
-        }
+        Asked::Yes => CheckAnswer::Judged(walk_known(which, cpi, batch)),
     }
 }
 

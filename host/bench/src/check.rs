@@ -6,25 +6,27 @@ use std::hint::black_box;
 use cellprism::Answer;
 use magnetar_cpu::circuit::{build_circuit_batched, check_row, CircuitSpec};
 
-use crate::inputs::{self, Accepted, LEAST_SCRATCH, MOST_SCRATCH, ROWS};
+use crate::inputs::{Accepted, Listing, HOUSE, LEAST_SCRATCH, MOST_SCRATCH};
 use crate::reads;
 use crate::timing::{in_turn, Work};
 use crate::CHECKS;
 
-/// Batches of one size: seconds a cycle of each side.
+/// Batches of one size against one listing: seconds a cycle of each side.
 pub struct Checked {
+    pub listing: &'static Listing,
     pub cpi: usize,
     pub repetitions: usize,
+    /// Against its own circuit, which is the house listing.
     pub original: f64,
     pub read: f64,
-    /// The house listing is lent, and the most scratch.
+    /// The listing is lent, and the most scratch.
     pub check_row: f64,
     pub check_row_plain: f64,
     /// `check_row` with the least scratch.
     pub check_row_least: f64,
     /// No listing is lent.
-    pub check_house: f64,
-    pub check_house_plain: f64,
+    pub check_known: f64,
+    pub check_known_plain: f64,
     /// The comparison of the listing with the table, and the clearing of the most scratch, once a batch.
     pub compare: f64,
     pub clear: f64,
@@ -34,52 +36,61 @@ pub struct Checked {
 }
 
 impl Checked {
-    pub fn time((cpi, batches, repetitions): (usize, usize, usize)) -> Checked {
+    pub fn time(
+        listing: &'static Listing,
+        (cpi, batches, repetitions): (usize, usize, usize),
+    ) -> Checked {
         let accepted = Accepted::new(cpi, batches);
         let spec = build_circuit_batched(cpi);
-        let listing = inputs::listing();
-        let listing = || black_box(&listing[..]);
+        let (known, words) = (listing.known, listing.words());
+        let words = || black_box(&words[..]);
+        let right = listing.accepted(cpi);
         let scratch = || vec![0; MOST_SCRATCH];
         let (mut fast, mut plain) = (scratch(), scratch());
         let mut least = vec![0; LEAST_SCRATCH];
         let (mut cleared, mut behind) = (scratch(), scratch());
         let units = cpi * batches;
-        let [original, read, check_house, compare, clear, in_sequence, check_row, check_row_least, check_house_plain, check_row_plain] =
+        let [original, read, check_known, compare, clear, in_sequence, check_row, check_row_least, check_known_plain, check_row_plain] =
             in_turn(
                 Work { units, repetitions },
                 [
                     &mut || by_original(&spec, &accepted),
                     &mut || accepted.words.iter().for_each(|z| reads::words(cpi, z)),
-                    &mut || each(cpi, &accepted, |z| product::check_house(cpi, z)),
-                    &mut || (0..batches).for_each(|_| assert!(product::is_house(listing()))),
+                    &mut || each(&accepted, right, |z| product::check_known(known, cpi, z)),
+                    &mut || (0..batches).for_each(|_| assert!(product::is_known(known, words()))),
                     &mut || (0..batches).for_each(|_| product::clear(black_box(&mut cleared))),
                     &mut || {
-                        each(cpi, &accepted, |z| {
-                            assert!(product::is_house(listing()));
-                            let rows = product::check_house(cpi, z);
+                        each(&accepted, right, |z| {
+                            assert!(product::is_known(known, words()));
+                            let rows = product::check_known(known, cpi, z);
                             product::clear(black_box(&mut behind));
                             rows
                         });
                     },
                     &mut || {
-                        each(cpi, &accepted, |z| {
-                            product::check_row(cpi, listing(), z, &mut fast)
-                        });
+                        each(&accepted, right, |z| {
+                            product::check_row(cpi, words(), z, &mut fast)
+                        })
                     },
                     &mut || {
-                        each(cpi, &accepted, |z| {
-                            product::check_row(cpi, listing(), z, &mut least)
-                        });
+                        each(&accepted, right, |z| {
+                            product::check_row(cpi, words(), z, &mut least)
+                        })
                     },
-                    &mut || each(cpi, &accepted, |z| product::check_house_plain(cpi, z)),
                     &mut || {
-                        each(cpi, &accepted, |z| {
-                            product::check_row_plain(cpi, listing(), z, &mut plain)
-                        });
+                        each(&accepted, right, |z| {
+                            product::check_known_plain(known, cpi, z)
+                        })
+                    },
+                    &mut || {
+                        each(&accepted, right, |z| {
+                            product::check_row_plain(cpi, words(), z, &mut plain)
+                        })
                     },
                 ],
             );
         Checked {
+            listing,
             cpi,
             repetitions,
             original,
@@ -87,8 +98,8 @@ impl Checked {
             check_row,
             check_row_plain,
             check_row_least,
-            check_house,
-            check_house_plain,
+            check_known,
+            check_known_plain,
             compare,
             clear,
             in_sequence,
@@ -111,7 +122,8 @@ impl FromBytes {
         let (cpi, batches, repetitions) = CHECKS[0];
         let accepted = Accepted::new(cpi, batches);
         let spec = build_circuit_batched(cpi);
-        let right = Answer::Accepted { rows: ROWS as u32 };
+        let rows = HOUSE.rows as u32;
+        let right = Answer::Accepted { rows };
         let units = batches;
         let [original, read, check] = in_turn(
             Work { units, repetitions },
@@ -136,10 +148,10 @@ impl FromBytes {
 }
 
 /// One check by the product of each batch.
-fn each(cpi: usize, accepted: &Accepted, mut check: impl FnMut(&[u64]) -> u64) {
+fn each(accepted: &Accepted, right: u64, mut check: impl FnMut(&[u64]) -> u64) {
     for words in &accepted.words {
         let rows = check(black_box(words));
-        assert_eq!(rows, (ROWS * cpi) as u64, "the product does not accept");
+        assert_eq!(rows, right, "the product does not accept");
     }
 }
 

@@ -5,7 +5,9 @@ use std::cell::RefCell;
 use std::hint::black_box;
 use std::ops::Range;
 
-use crate::inputs::{Accepted, BIN_ROWS, ROWS};
+use product::Known;
+
+use crate::inputs::{Accepted, Listing, HOUSE};
 use crate::table::{fine, head, line, ratio};
 use crate::timing::{in_turn, Work};
 
@@ -67,12 +69,13 @@ impl Place {
     }
 
     /// The verdict as the boundary writes it.
-    pub fn verdict(self, cpi: usize) -> u64 {
+    pub fn verdict(self, listing: &Listing, cpi: usize) -> u64 {
+        let &Listing { rows, bin_rows, .. } = listing;
         let cycle = self.cycle(cpi);
         let (fld, batch_row, rows) = match self {
             Place::First => (0, 0, 1),
-            Place::Middle => (0, 512 * cycle + 409, BIN_ROWS * cycle + 410),
-            Place::Last => (1, 32 * cycle + 30, ROWS * cpi),
+            Place::Middle => (0, 512 * cycle + 409, bin_rows * cycle + 410),
+            Place::Last => (1, 32 * cycle + 30, rows * cpi),
         };
         1 << 62 | fld << 61 | (rows as u64) << 32 | batch_row as u64
     }
@@ -107,26 +110,22 @@ impl Damaged {
     }
 
     fn accepted(&self, check: Check) {
-        let verdict = check(self.cpi, black_box(&self.words.borrow()));
-        assert_eq!(verdict, accepted(self.cpi), "it is not accepted");
+        let verdict = check(HOUSE.known, self.cpi, black_box(&self.words.borrow()));
+        assert_eq!(verdict, HOUSE.accepted(self.cpi), "it is not accepted");
     }
 
     fn failing(&self, place: Place, check: Check) {
         let word = place.word(self.cpi);
         self.words.borrow_mut()[word] ^= 1;
-        let verdict = check(self.cpi, black_box(&self.words.borrow()));
+        let verdict = check(HOUSE.known, self.cpi, black_box(&self.words.borrow()));
         self.words.borrow_mut()[word] ^= 1;
-        assert_eq!(verdict, place.verdict(self.cpi), "it fails elsewhere");
+        let right = place.verdict(&HOUSE, self.cpi);
+        assert_eq!(verdict, right, "it fails elsewhere");
     }
 }
 
 /// The check without a listing lent, or the plain walk.
-type Check = fn(usize, &[u64]) -> u64;
-
-/// The verdict on the batch without damage.
-pub fn accepted(cpi: usize) -> u64 {
-    (ROWS * cpi) as u64
-}
+type Check = fn(Known, usize, &[u64]) -> u64;
 
 /// Seconds a batch of the plain walk over it, of the check of it, and of the check of it accepted.
 fn time(damaged: &Damaged, place: Place, calls: usize, repetitions: usize) -> [f64; 3] {
@@ -138,16 +137,16 @@ fn time(damaged: &Damaged, place: Place, calls: usize, repetitions: usize) -> [f
     in_turn(
         work,
         [
-            &mut || times(&|| damaged.failing(place, product::check_house_plain)),
-            &mut || times(&|| damaged.failing(place, product::check_house)),
-            &mut || times(&|| damaged.accepted(product::check_house)),
+            &mut || times(&|| damaged.failing(place, product::check_known_plain)),
+            &mut || times(&|| damaged.failing(place, product::check_known)),
+            &mut || times(&|| damaged.accepted(product::check_known)),
         ],
     )
 }
 
 pub fn print() {
     head(&[
-        "`check_house` of a batch that fails",
+        "`check_known`, house, of a batch that fails",
         "unit",
         "the plain walk",
         "check",

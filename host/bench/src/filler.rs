@@ -3,7 +3,7 @@
 use std::hint::black_box;
 use std::ops::RangeInclusive;
 
-use crate::inputs::{self, Accepted, MOST_SCRATCH, ROWS};
+use crate::inputs::{Accepted, HOUSE, MOST_SCRATCH};
 use crate::table::{head, two};
 use crate::timing::{in_turn, Work};
 use crate::CHECKS;
@@ -37,7 +37,7 @@ pub fn print() {
 /// first turn, and the original's after.
 fn time(cpi: usize, batches: usize, repetitions: usize) -> [f64; 2] {
     let accepted = Accepted::new(cpi, batches);
-    let listing = inputs::listing();
+    let listing = HOUSE.words();
     let mut scratch = vec![0; MOST_SCRATCH];
     let mut filled = accepted.words.clone();
     for words in &mut filled {
@@ -56,7 +56,7 @@ fn time(cpi: usize, batches: usize, repetitions: usize) -> [f64; 2] {
                 for words in &accepted.words {
                     let words = black_box(&words[..]);
                     let rows = product::check_row_plain(cpi, &listing, words, &mut scratch);
-                    assert_eq!(rows, (ROWS * cpi) as u64, "the product does not accept");
+                    assert_eq!(rows, HOUSE.accepted(cpi), "the product does not accept");
                 }
             },
             &mut || {

@@ -5,14 +5,45 @@ use magnetar_cpu::execute;
 use magnetar_cpu::expand::RomRow;
 use magnetar_cpu::interp::CycleRecord;
 use magnetar_field::Gf128;
+use product::Known;
 use words::{record_words, rom_words, words_of};
 
-/// Words of the house listing.
-const LISTING_WORDS: usize = 3499;
+/// A listing that is known by name: its words, the rows of a cycle, and those of bin among them.
+pub struct Listing {
+    pub known: Known,
+    pub name: &'static str,
+    words: usize,
+    pub rows: usize,
+    pub bin_rows: usize,
+}
 
-/// Rows of a cycle, and those of bin among them.
-pub const ROWS: usize = 514;
-pub const BIN_ROWS: usize = 483;
+pub const HOUSE: Listing = Listing {
+    known: Known::House,
+    name: "house",
+    words: 3499,
+    rows: 514,
+    bin_rows: 483,
+};
+
+pub const STRICT: Listing = Listing {
+    known: Known::Strict,
+    name: "strict",
+    words: 3529,
+    rows: 522,
+    bin_rows: 491,
+};
+
+impl Listing {
+    pub fn words(&self) -> Vec<u32> {
+        let word = |i| product::listing_word(self.known, i);
+        (0..self.words).map(word).collect()
+    }
+
+    /// The verdict on a batch that is accepted, as the boundary writes it.
+    pub fn accepted(&self, cpi: usize) -> u64 {
+        (self.rows * cpi) as u64
+    }
+}
 
 /// Words of scratch that the check may be lent: a multiple of the least, up to the most.
 pub const LEAST_SCRATCH: usize = 6;
@@ -122,8 +153,4 @@ impl Accepted {
 /// The lowest byte of each word first.
 pub fn bytes_of(words: &[u64]) -> Vec<u8> {
     words.iter().flat_map(|word| word.to_le_bytes()).collect()
-}
-
-pub fn listing() -> Vec<u32> {
-    (0..LISTING_WORDS).map(product::listing_word).collect()
 }

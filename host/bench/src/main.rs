@@ -24,6 +24,7 @@ mod way_back;
 use std::process::ExitCode;
 
 use check::{Checked, FromBytes};
+use inputs::{HOUSE, STRICT};
 
 /// Cycles in a batch, batches of one repetition, repetitions.
 const CHECKS: [(usize, usize, usize); 3] = [(1, 16, 2001), (16, 4, 401), (256, 1, 101)];
@@ -35,11 +36,12 @@ fn main() -> ExitCode {
     }
     machine::describe();
     println!("{BUFFERS}");
-    let checks = CHECKS.map(Checked::time);
+    let [house, strict] =
+        [&HOUSE, &STRICT].map(|listing| CHECKS.map(|size| Checked::time(listing, size)));
     let from_bytes = FromBytes::time();
-    beside_original::print(&checks, &from_bytes);
-    beside_read::print(&checks, &from_bytes);
-    beside_read::print_parts(&checks);
+    beside_original::print(&house, &from_bytes);
+    beside_read::print(&house, &strict, &from_bytes);
+    beside_read::print_parts(house.iter().chain(&strict));
     failing::print();
     stack::print();
     filler::print();

@@ -5,8 +5,8 @@ use std::fmt::Debug;
 use cellprism::{Answer, Relation};
 use product::stack::touched;
 
-use crate::failing::{accepted, Damaged, Place};
-use crate::inputs::{bytes_of, listing, LEAST_SCRATCH, ROWS};
+use crate::failing::{Damaged, Place};
+use crate::inputs::{bytes_of, Listing, HOUSE, LEAST_SCRATCH, STRICT};
 use crate::table::{head, line};
 use crate::CHECKS;
 
@@ -29,12 +29,16 @@ pub fn print() {
     ]);
     for (cpi, ..) in CHECKS {
         let damaged = Damaged::new(cpi);
-        let house = of_check_house(&damaged);
-        print_line(format!("`check_house`, cpi {cpi}"), house);
-        let row = of_check_row(&damaged, product::check_row);
-        print_line(format!("`check_row`, cpi {cpi}"), row);
-        let plain = of_check_row(&damaged, product::check_row_plain);
-        print_line(format!("`check_row`, the plain walk, cpi {cpi}"), plain);
+        for listing in [&HOUSE, &STRICT] {
+            let name = listing.name;
+            let known = of_check_known(&damaged, listing);
+            print_line(format!("`check_known`, {name}, cpi {cpi}"), known);
+            let row = of_check_row(&damaged, listing, product::check_row);
+            print_line(format!("`check_row`, {name}, cpi {cpi}"), row);
+            let plain = of_check_row(&damaged, listing, product::check_row_plain);
+            let what = format!("`check_row`, {name}, the plain walk, cpi {cpi}");
+            print_line(what, plain);
+        }
     }
     let boundary = of_boundary(&Damaged::new(1));
     print_line("`cellprism_check_row`".into(), boundary);
@@ -46,24 +50,26 @@ fn print_line(what: String, bytes: Bytes) {
     line(&[what, "KB".into(), accepted, failing, most]);
 }
 
-fn of_check_house(damaged: &Damaged) -> Bytes {
-    let cpi = damaged.cpi;
-    each(batches(damaged), |words| product::check_house(cpi, words))
+fn of_check_known(damaged: &Damaged, listing: &Listing) -> Bytes {
+    let (cpi, known) = (damaged.cpi, listing.known);
+    each(batches(damaged, listing), |words| {
+        product::check_known(known, cpi, words)
+    })
 }
 
 /// Lent the least scratch: what it lacks must not be taken from the stack.
-fn of_check_row(damaged: &Damaged, check: CheckRow) -> Bytes {
-    let (cpi, listing) = (damaged.cpi, listing());
+fn of_check_row(damaged: &Damaged, listing: &Listing, check: CheckRow) -> Bytes {
+    let (cpi, lent) = (damaged.cpi, listing.words());
     let mut scratch = vec![0; LEAST_SCRATCH];
-    each(batches(damaged), |words| {
-        check(cpi, &listing, words, &mut scratch)
+    each(batches(damaged, listing), |words| {
+        check(cpi, &lent, words, &mut scratch)
     })
 }
 
 /// From bytes, for one cycle.
 fn of_boundary(damaged: &Damaged) -> Bytes {
-    let [good, bad] = batches(damaged).map(|(words, _)| bytes_of(&words));
-    let rows = ROWS as u32;
+    let [good, bad] = batches(damaged, &HOUSE).map(|(words, _)| bytes_of(&words));
+    let rows = HOUSE.rows as u32;
     let (relation, row) = (Relation::Fld, 30);
     let answers = [
         (good, Answer::Accepted { rows }),
@@ -72,11 +78,11 @@ fn of_boundary(damaged: &Damaged) -> Bytes {
     each(answers, cellprism::check_row)
 }
 
-fn batches(damaged: &Damaged) -> [(Vec<u64>, u64); 2] {
+fn batches(damaged: &Damaged, listing: &Listing) -> [(Vec<u64>, u64); 2] {
     let (cpi, last) = (damaged.cpi, Place::Last);
     [
-        (damaged.copy(None), accepted(cpi)),
-        (damaged.copy(Some(last)), last.verdict(cpi)),
+        (damaged.copy(None), listing.accepted(cpi)),
+        (damaged.copy(Some(last)), last.verdict(listing, cpi)),
     ]
 }
 

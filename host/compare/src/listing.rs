@@ -1,5 +1,7 @@
 //! The house listing against the original's `build_circuit`.
 
+use product::Known;
+
 use crate::house::{self, Circuit, Entry, Matrices, Relation, Side, Word};
 use crate::original::{self, CircuitSpec, SparseMatrix};
 use crate::report::{test, Tally, Test};
@@ -37,7 +39,11 @@ pub fn tests() -> Vec<Test> {
 }
 
 pub fn words() -> Vec<u32> {
-    (0..WORDS).map(product::listing_word).collect()
+    (0..WORDS).map(word).collect()
+}
+
+fn word(i: usize) -> u32 {
+    product::listing_word(Known::House, i)
 }
 
 fn bench_sheet(tally: &mut Tally) {
@@ -51,15 +57,14 @@ fn bench_sheet(tally: &mut Tally) {
         0x8000_01c0,
     ];
     for (i, right) in first.into_iter().enumerate() {
-        tally.same(|| format!("word {i}"), product::listing_word(i), right);
+        tally.same(|| format!("word {i}"), word(i), right);
     }
-    let last = product::listing_word(WORDS - 1);
-    tally.same(|| "the last word".into(), last, 0x4000_708f);
+    tally.same(|| "the last word".into(), word(WORDS - 1), 0x4000_708f);
 }
 
 fn past_end(tally: &mut Tally) {
     for i in PAST {
-        tally.same(|| format!("word {i}"), product::listing_word(i), 0);
+        tally.same(|| format!("word {i}"), word(i), 0);
     }
 }
 

@@ -18,6 +18,7 @@ mod parallel;
 mod report;
 mod rows;
 mod storage;
+mod strict;
 mod verdict;
 mod witness;
 mod words;
@@ -34,6 +35,10 @@ fn main() -> ExitCode {
     );
     println!("pseudo-random numbers from seed {:#x}", numbers::SEED);
     println!("batches to be judged: {}", verdict::batches_judged());
+    println!(
+        "batches to be judged by both listings: {}",
+        strict::batches_judged()
+    );
     println!("batches to be filled: {}", filler::batches_filled());
     println!("rows to be made: {}", witness::rows_made());
     println!("rows to be laid out on pages: {}", page::rows_laid_out());
@@ -49,5 +54,6 @@ fn main() -> ExitCode {
     tests.extend(witness::tests());
     tests.extend(page::tests());
     tests.extend(storage::tests());
+    tests.extend(strict::tests());
     report::run_all(&tests)
 }

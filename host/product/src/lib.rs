@@ -43,7 +43,7 @@ mod c {
         pub fn compare_scratch_fits(words: usize) -> u32;
         pub fn compare_way_back(cpi: usize, batch_column: usize, part: u32) -> u64;
         pub fn compare_row_way_back(cpi: usize, relation: u32, batch_row: usize, part: u32) -> u64;
-        pub fn compare_listing_word(i: usize) -> u32;
+        pub fn compare_listing_word(which: u32, i: usize) -> u32;
         pub fn compare_batched(cpi: usize, cycle: usize, word: u32) -> u64;
         pub fn compare_read_word(word: u32, part: u32) -> u64;
         pub fn compare_layout(i: usize) -> u64;
@@ -60,14 +60,20 @@ mod c {
             scratch: *mut u64,
             scratch_len: usize,
         ) -> u64;
-        pub fn compare_check_house(
+        pub fn compare_check_known(
+            which: u32,
             way: u32,
             cpi: usize,
             batch: *const u64,
             batch_len: usize,
         ) -> u64;
-        pub fn compare_fill_and_check(cpi: usize, batch: *mut u64, batch_len: usize) -> u64;
-        pub fn compare_is_house(listing: *const u32, listing_len: usize) -> u64;
+        pub fn compare_fill_and_check(
+            which: u32,
+            cpi: usize,
+            batch: *mut u64,
+            batch_len: usize,
+        ) -> u64;
+        pub fn compare_is_known(which: u32, listing: *const u32, listing_len: usize) -> u64;
         pub fn compare_pack_named(
             cpi: usize,
             batch: *const u64,
@@ -280,9 +286,16 @@ pub fn row_way_back(cpi: usize, relation: u32, batch_row: usize, part: u32) -> A
     answer(unsafe { c::compare_row_way_back(cpi, relation, batch_row, part) })
 }
 
-/// Word i of the house listing, 0 past its end.
-pub fn listing_word(i: usize) -> u32 {
-    unsafe { c::compare_listing_word(i) }
+/// A listing that is known by name, so that none has to be lent; by the numbers that the C functions take.
+#[derive(Clone, Copy, Debug, PartialEq, Eq)]
+pub enum Known {
+    House = 0,
+    Strict = 1,
+}
+
+/// Word i of a listing, 0 past its end.
+pub fn listing_word(known: Known, i: usize) -> u32 {
+    unsafe { c::compare_listing_word(known as u32, i) }
 }
 
 /// A listing word as a cycle of a batch has it: index + 2^32 · coefficient + 2^40 · kind.
@@ -340,9 +353,9 @@ pub fn check_row(cpi: usize, listing: &[u32], batch: &[u64], scratch: &mut [u64]
     checked(Way::Usual, cpi, listing, batch, scratch)
 }
 
-/// The verdict against the house listing, which is not lent. Answers as `check_row` does.
-pub fn check_house(cpi: usize, batch: &[u64]) -> u64 {
-    house_checked(Way::Usual, cpi, batch)
+/// The verdict against a listing that is known by name and not lent. Answers as `check_row` does.
+pub fn check_known(known: Known, cpi: usize, batch: &[u64]) -> u64 {
+    known_checked(Way::Usual, known, cpi, batch)
 }
 
 /// The same verdict by the plain walk over the listing.
@@ -350,9 +363,9 @@ pub fn check_row_plain(cpi: usize, listing: &[u32], batch: &[u64], scratch: &mut
     checked(Way::Plain, cpi, listing, batch, scratch)
 }
 
-/// The same verdict as `check_house` by the plain walk over the house listing.
-pub fn check_house_plain(cpi: usize, batch: &[u64]) -> u64 {
-    house_checked(Way::Plain, cpi, batch)
+/// The same verdict as `check_known` by the plain walk over that listing.
+pub fn check_known_plain(known: Known, cpi: usize, batch: &[u64]) -> u64 {
+    known_checked(Way::Plain, known, cpi, batch)
 }
 
 /// The two ways to the one verdict, by the numbers that the C functions take.
@@ -377,19 +390,20 @@ fn checked(way: Way, cpi: usize, listing: &[u32], batch: &[u64], scratch: &mut [
     }
 }
 
-fn house_checked(way: Way, cpi: usize, batch: &[u64]) -> u64 {
-    unsafe { c::compare_check_house(way as u32, cpi, batch.as_ptr(), batch.len()) }
+fn known_checked(way: Way, known: Known, cpi: usize, batch: &[u64]) -> u64 {
+    let (words, len) = (batch.as_ptr(), batch.len());
+    unsafe { c::compare_check_known(known as u32, way as u32, cpi, words, len) }
 }
 
-/// Fills a batch and checks it against the house listing. Answers as `check_house` does on what is
-/// filled, or as `fill` where that refuses.
-pub fn fill_and_check(cpi: usize, batch: &mut [u64]) -> u64 {
-    unsafe { c::compare_fill_and_check(cpi, batch.as_mut_ptr(), batch.len()) }
+/// Fills a batch and checks it against a known listing. Answers as `check_known` does on what is filled,
+/// or as `fill` where that refuses.
+pub fn fill_and_check(known: Known, cpi: usize, batch: &mut [u64]) -> u64 {
+    unsafe { c::compare_fill_and_check(known as u32, cpi, batch.as_mut_ptr(), batch.len()) }
 }
 
-/// Whether the words are the house listing's.
-pub fn is_house(listing: &[u32]) -> bool {
-    unsafe { c::compare_is_house(listing.as_ptr(), listing.len()) == 1 }
+/// Whether the words are those of a known listing.
+pub fn is_known(known: Known, listing: &[u32]) -> bool {
+    unsafe { c::compare_is_known(known as u32, listing.as_ptr(), listing.len()) == 1 }
 }
 
 /// Packs the columns that are looked at, 32 words a cycle: column c of cycle d is bit c % 64 of word

@@ -1,8 +1,8 @@
 -- Two lists compared word by word: the or of what differs is 0 exactly where they are the same.
 -- Assumes nothing.
-use mathlib.Core.Path.{_≡_, refl, sym, ap, _∙_}
+use mathlib.Core.Path.{_≡_, refl, sym, ap, subst, _∙_}
 use mathlib.Core.Logic.{_↔_}
-use mathlib.Core.Bool.{true, false, false≢true}
+use mathlib.Core.Bool.{Bool, true, false, false≢true}
 use mathlib.Core.List.{List}
 use Prim.Native.Nat.{ℕ, _+_, _<_}
 use native.Mathlib.Decide.{ℕ-discrete}
@@ -58,3 +58,7 @@ compared-all a b n different la lb h = (
 -- of another length, they are not
 pub other-length : (a b : List ℕ) (n : ℕ) → (length a ≡ n → ⊥) → length b ≡ n → (false ≡ true) ↔ (a ≡ b)
 other-length a b n f lb = (λ e. absurd (false≢true e), λ e. absurd (f (ap length e ∙ lb)))
+
+-- held against what is a table
+pub as-table : {a made table : List ℕ} {r : Bool} → made ≡ table → (r ≡ true) ↔ (a ≡ made) → (r ≡ true) ↔ (a ≡ table)
+as-table {a = a} {r = r} e h = subst (λ (t : List ℕ). (r ≡ true) ↔ (a ≡ t)) e h

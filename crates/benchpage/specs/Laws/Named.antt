@@ -24,7 +24,8 @@ use Rattle.verdict.specs.declared.Verdict.the-variants.{Accepted, Failed}
 use Rattle.verdict.specs.declared.CheckAnswer.{CheckAnswer}
 use Rattle.verdict.specs.declared.CheckAnswer.the-variants.{Judged, Refused}
 use Rattle.verdict.specs.Row.{cycleOf, holds}
-use Rattle.verdict.specs.Check.{judged, houseChecked}
+use Rattle.strict.specs.declared.Known.the-variants.{House}
+use Rattle.verdict.specs.Check.{judged, knownChecked}
 use Rattle.verdict.specs.Laws.Shown.{failed-names}
 use Rattle.cellprism.specs.Bytes.{rowOf}
 use Rattle.cellprism.specs.Answer.{rowChecked}
@@ -64,11 +65,11 @@ verdictOf (Judged v) = v
 verdictOf (Refused r) = Accepted 0
 
 pub named : (bytes : List ℕ) (rel : Relation) (n rows : ℕ) → rowChecked bytes ≡ Judged (Failed rel n rows) → Named bytes rel n
-unfolding rowChecked houseChecked verdictOf
+unfolding rowChecked knownChecked verdictOf
 named bytes rel n rows e = by-test (eqb (length bytes) 65536) refl e
   where
     by-test : (b : Bool) → eqb (length bytes) 65536 ≡ b
-        → cond b (houseChecked 1 (rowOf bytes)) (Refused (no 2 0)) ≡ Judged (Failed rel n rows) → Named bytes rel n
+        → cond b (knownChecked House 1 (rowOf bytes)) (Refused (no 2 0)) ≡ Judged (Failed rel n rows) → Named bytes rel n
     by-test true t e =
         judged-named bytes rel n rows (eqb-true (length bytes) 65536 t) (ap verdictOf (if-yes Refused _ (row-asked bytes) ∙ e))
     by-test false t e = let z : _≡_ {A = ℕ} 0 1 = cc in absurd (omega arith)

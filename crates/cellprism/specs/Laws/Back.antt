@@ -14,7 +14,8 @@ use Rattle.layout.specs.Batch.{allowed, ROW-WORDS}
 use Rattle.layout.specs.Laws.Questions.{if-yes, yes-batch}
 use Rattle.circuit.specs.Circuit.{circuitWords}
 use Rattle.verdict.specs.declared.CheckAnswer.the-variants.{Judged, Refused}
-use Rattle.verdict.specs.Check.{judged, houseChecked}
+use Rattle.strict.specs.declared.Known.the-variants.{House}
+use Rattle.verdict.specs.Check.{judged, knownChecked}
 use Rattle.cellprism.specs.Bytes.{numberOf, wordsOf}
 use Rattle.cellprism.specs.Answer.{rowChecked}
 
@@ -49,8 +50,8 @@ words-back (w ∷ ws) h =
     ap₂ (λ v vs. v ∷ vs) (spelled-number w (ltb-true w (2 ^ 64) (b .0))) (words-back ws (b .1))
 
 pub row-judged : (ws : List ℕ) → wordsFit ws ≡ true → length ws ≡ ROW-WORDS → rowChecked (bytesOf ws) ≡ Judged (judged 1 circuitWords ws)
-unfolding rowChecked houseChecked allowed
+unfolding rowChecked knownChecked allowed
 row-judged ws h e =
     sym (passed _ _ _ (eq-eqb (length (bytesOf ws)) 65536 (bytes-length ws ∙ ap (λ n. 8 * n) e)))
-    ∙ ap (houseChecked 1) (ap (λ n. wordsOf n (bytesOf ws)) (sym e) ∙ words-back ws h)
+    ∙ ap (knownChecked House 1) (ap (λ n. wordsOf n (bytesOf ws)) (sym e) ∙ words-back ws h)
     ∙ sym (if-yes Refused _ (yes-batch 1 (length ws) refl e))

@@ -19,7 +19,8 @@ use Rattle.circuit.specs.Parse.{rowsOf}
 use Rattle.circuit.specs.Laws.House.{words-read, counts}
 use Rattle.verdict.specs.declared.CheckAnswer.the-variants.{Refused}
 use Rattle.verdict.specs.Row.{cycleOf}
-use Rattle.verdict.specs.Check.{Constraint, ofRelation, constraints, met, run, judged, houseChecked}
+use Rattle.strict.specs.declared.Known.the-variants.{House}
+use Rattle.verdict.specs.Check.{Constraint, ofRelation, constraints, met, run, judged, knownChecked}
 use Rattle.verdict.specs.Laws.Run.{Outcome, all-met, one-fails, outcome}
 use Rattle.verdict.specs.Laws.Verdicts.{constraint-count}
 use Rattle.cellprism.specs.Bytes.{wordsOf}
@@ -66,9 +67,9 @@ judged-small batch = go (outcome test ks 0)
         )
 
 pub exact : (bytes : List ℕ) → Exact (rowChecked bytes)
-unfolding rowChecked houseChecked
+unfolding rowChecked knownChecked
 exact bytes = by-test (eqb (length bytes) 65536)
   where
-    by-test : (b : Bool) → Exact (cond b (houseChecked 1 (wordsOf ROW-WORDS bytes)) (Refused (no 2 0)))
+    by-test : (b : Bool) → Exact (cond b (knownChecked House 1 (wordsOf ROW-WORDS bytes)) (Refused (no 2 0)))
     by-test true = subst Exact (if-yes Refused _ (row-asked bytes)) (judged-small (wordsOf ROW-WORDS bytes))
     by-test false = refl

@@ -17,6 +17,7 @@ use Rattle.field.specs.Gf.{one, same}
 use Rattle.layout.specs.declared.Asked.the-variants.{Yes}
 use Rattle.layout.specs.Batch.{allowed, ROW-WORDS, batchAsked}
 use Rattle.layout.specs.Laws.Questions.{yes-batch}
+use Rattle.strict.specs.declared.Known.the-variants.{House}
 use Rattle.verdict.specs.Row.{elementAt}
 use Rattle.packed.specs.Packed.{packedNamed, namedBits}
 use Rattle.packed.specs.One.{InRow}
@@ -82,24 +83,24 @@ module _ (bytes now after : List ℕ) (low high : ℕ) (h : InRow (rowOf bytes) 
   named : Named 1 row (replicate 32 0) after (bitOr low high)
   named = both-rows row (replicate 32 0) now after low high h g
 
-  left : shortBits 1 row (replicate 32 0) ≡ shortYes 1 row
-  left = left-bits 1 row (row-asked bytes) o
+  left : shortBits House 1 row (replicate 32 0) ≡ shortYes House 1 row
+  left = left-bits House 1 row (row-asked bytes) o
 
-  pub short-judged : {x : Gf128} {r : Bool} → bitOr low high ≡ 0 → x ≡ elementAt row 2049 → r ≡ judgedWords (λ k. getD after k 0) x
-      → r ≡ shortYes 1 row
+  pub short-judged : {x : Gf128} {r : Bool} → bitOr low high ≡ 0 → x ≡ elementAt row 2049 → r ≡ judgedWords House (λ k. getD after k 0) x
+      → r ≡ shortYes House 1 row
   unfolding shortBits allJudged
   short-judged z e j =
       let out = packedNamed 1 row (replicate 32 0) in let output = elementAt row 2049 in
       let packs = named-out 1 row (replicate 32 0) after (bitOr low high) refl named in
-      j ∙ judged-agree (λ k. getD after k 0) (wordsFrom out 0) (λ k _. ap₂ (λ (u : List ℕ) (i : ℕ). getD u i 0) packs (omega arith)) _
-      ∙ ap (judgedWords (wordsFrom out 0)) e ∙ sym (and-true (judgedWords (wordsFrom out 0) output))
-      ∙ ap (λ (t : Bool). t && (judgedWords (wordsFrom out 0) output && true)) (sym (named .bits .0 z)) ∙ left
+      j ∙ judged-agree (λ k. getD after k 0) (wordsFrom out 0) (λ k _. ap₂ (λ (u : List ℕ) (i : ℕ). getD u i 0) packs (omega arith)) House _
+      ∙ ap (judgedWords House (wordsFrom out 0)) e ∙ sym (and-true (judgedWords House (wordsFrom out 0) output))
+      ∙ ap (λ (t : Bool). t && (judgedWords House (wordsFrom out 0) output && true)) (sym (named .bits .0 z)) ∙ left
 
-  pub not-short : (bitOr low high ≡ 0 → ⊥) → false ≡ shortYes 1 row
+  pub not-short : (bitOr low high ≡ 0 → ⊥) → false ≡ shortYes House 1 row
   unfolding shortBits
   not-short f =
-      ap (λ (t : Bool). t && allJudged (packedNamed 1 row (replicate 32 0)) (elementAt row 2049) 1 0)
+      ap (λ (t : Bool). t && allJudged House (packedNamed 1 row (replicate 32 0)) (elementAt row 2049) 1 0)
       (sym (no-true (namedBits 1 row) (λ e. f (named .bits .1 e)))) ∙ left
 
-pub no-short : (bytes : List ℕ) → same (elementAt (rowOf bytes) 2048) one ≡ false → false ≡ shortYes 1 (rowOf bytes)
-no-short bytes e = no-one 1 (rowOf bytes) (row-asked bytes) e
+pub no-short : (bytes : List ℕ) → same (elementAt (rowOf bytes) 2048) one ≡ false → false ≡ shortYes House 1 (rowOf bytes)
+no-short bytes e = no-one House 1 (rowOf bytes) (row-asked bytes) e

@@ -12,17 +12,21 @@ use borrow.Author.Tests.{lt-ltb, ltb-true, ltb-false, not-true, not-false}
 use lib.Dec.{ltb}
 use lib.ListN.{length, getD}
 use Rattle.base.specs.Tests.{firstFrom}
-use Rattle.base.specs.Laws.Tests.{passed, both}
+use Rattle.base.specs.Laws.Tests.{passed, both, both-so}
 use Rattle.base.specs.Laws.First.{first-passes, first-least, first-from}
 use Rattle.field.specs.declared.Gf128.{Gf128}
 use Rattle.layout.specs.declared.Asked.the-variants.{Yes}
-use Rattle.layout.specs.Columns.{ONE-COL}
+use Rattle.layout.specs.Columns.{ONE-COL, IS-LOAD, IS-STORE}
 use Rattle.layout.specs.Questions.{no, ifYes}
+use Rattle.strict.specs.declared.Known.{Known}
+use Rattle.strict.specs.declared.Known.the-variants.{House, Strict}
 use Rattle.verdict.specs.Row.{cycleOf, bitsOf}
 use Rattle.step.specs.Step.{Condition, Step}
+use Rattle.step.specs.Strict.{widths, ConditionsOf}
 use Rattle.step.specs.Fill.{fillAsked}
+use Rattle.step.specs.Laws.Strict.{not-clause, width-clauses}
 use Rattle.filler.specs.declared.conditions.StepAnswer.the-variants.{Meets, Unmet, Refused}
-use Rattle.filler.specs.Met.{wordsOf, flagsOf, conditions, allTrue, named, firstFalse, firstUnmet, ifInside, stepAnswer}
+use Rattle.filler.specs.Met.{wordsOf, flagsOf, conditions, conditionsOf, allTrue, named, firstFalse, firstUnmet, ifInside, stepAnswer}
 use Rattle.filler.specs.Laws.MetEach as each
 
 -- ---- all of a list, and each
@@ -122,6 +126,15 @@ module _ (b : ℕ → Bool) (output : Gf128) where
           n 10 .1 (s .address),
         ),
   )
+
+  -- so of the conditions of a known listing
+  pub all-known : (k : Known) → (allTrue (conditionsOf k (wordsOf b) (flagsOf b) output) ≡ true) ↔ ConditionsOf k b output
+  all-known House = all-true
+  all-known Strict =
+      let tests = both-so _ _ (not-clause (b IS-LOAD && b IS-STORE)) (both-so _ _ (width-clauses (b IS-LOAD) (widths b)) all-true) in (
+        λ e. let c = tests .0 e in record { ten = c .1 .1; apart = c .0; one-width = c .1 .0 .0; no-width = c .1 .0 .1 },
+        λ s. tests .1 (s .apart, ((s .one-width, s .no-width), s .ten)),
+      )
 
   -- where all are true, the search names none
   true-meets : allTrue tests ≡ true → named first ≡ Meets

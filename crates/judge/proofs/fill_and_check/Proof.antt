@@ -9,12 +9,12 @@ use Rattle.judge.proofs.fill_and_check.Tie as tie
 
 returns : tie.Need-returns
 returns c =
-    let a = c .before in let f = a .before .before .before .before in promised-no _ _ (f .fill .ensures) (a .asked .given .1)
+    let a = c .before in let f = a .before .before .before .before in promised-no _ _ _ (f .fill .ensures) (a .asked .given .1)
 
 returns-2 : tie.Need-returns-2
 returns-2 c =
     let t = c .before .before in let f = t .before .before .before .before in let k = f .before .before in
-    promised-yes _ _ (f .fill .ensures) (t .enum-told .given .1) (λ i. omega (arith, k .slice-known .given i)) (c .check-house .ensures)
+    promised-yes _ _ _ (f .fill .ensures) (t .enum-told .given .1) (λ i. omega (arith, k .slice-known .given i)) (c .check-known .ensures)
 
 pub fill-and-check-spec : {M : Type 1} → statement M
 fill-and-check-spec =

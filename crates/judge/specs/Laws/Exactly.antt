@@ -1,4 +1,4 @@
--- A cycle is judged with yes exactly when it meets the ten step conditions and each of its derived columns is what the filler makes it.
+-- A cycle is judged with yes exactly when it meets the conditions of the listing and each of its derived columns is what the filler makes it.
 -- Nothing is asked of what stands in the columns: they need not be bits.
 -- Assumes nothing.
 use mathlib.Core.Path.{_≡_, sym, _∙_}
@@ -15,15 +15,16 @@ use Rattle.base.specs.Laws.Blocks.{EachColumn, every-column}
 use Rattle.field.specs.declared.Gf128.{Gf128}
 use Rattle.layout.specs.Columns.{ONE-COL}
 use Rattle.layout.specs.Batch.{batchWords}
+use Rattle.strict.specs.declared.Known.{Known}
 use Rattle.verdict.specs.Row.{bitsOf}
-use Rattle.step.specs.Step.{Step}
+use Rattle.step.specs.Strict.{ConditionsOf}
 use Rattle.step.specs.Derived.{derived}
 use Rattle.step.specs.Determining.{filledBits}
 use Rattle.step.specs.Laws.Derived.{derived-below}
 use Rattle.filler.specs.Words.{wordAt, givenWords, derivedWords, blocks}
 use Rattle.filler.specs.Laws.Cycle.{blocks-are-derived, in-blocks-derived}
 use Rattle.filler.specs.Laws.Promise.{filled-bits}
-use Rattle.filler.specs.Laws.MetFirst.{all-true}
+use Rattle.filler.specs.Laws.MetFirst.{all-known}
 use Rattle.judge.specs.Judged.{judgedCycle}
 use Rattle.judge.specs.Laws.Written.{HasWord, all-written}
 
@@ -53,9 +54,9 @@ module _ (cpi : ℕ) (batch : List ℕ) (words : length batch ≡ batchWords cpi
         λ h c e. h c (in-blocks-derived g (derivedWords g) c e),
       )
 
-  pub judged-exactly : (output : Gf128) → (judgedCycle (bitsOf cpi batch d) output ≡ true)
-      ↔ (Step (bitsOf cpi batch d) output × ((c : ℕ) → derived c ≡ true → bitsOf cpi batch d c ≡ filledBits (bitsOf cpi batch d) c))
+  pub judged-exactly : (k : Known) (output : Gf128) → (judgedCycle k (bitsOf cpi batch d) output ≡ true)
+      ↔ (ConditionsOf k (bitsOf cpi batch d) output × ((c : ℕ) → derived c ≡ true → bitsOf cpi batch d c ≡ filledBits (bitsOf cpi batch d) c))
   unfolding judgedCycle wordAt
-  judged-exactly output =
-      both-so _ _ (all-true z output)
+  judged-exactly k output =
+      both-so _ _ (all-known z output k)
       (Iff·trans (all-written z ks) (Iff·trans (blocks-agree (filledBits z) z ks (filled-bits cpi batch words d inside one)) every-derived))

@@ -9,10 +9,13 @@ use lib.ListN.{getD, set, replicate}
 use Rattle.base.specs.Bits.{val, _⊻_, bitAt}
 use Rattle.base.specs.Lists.{joined, from, fromEach}
 use Rattle.field.specs.Gf.{zero}
-use Rattle.layout.specs.Columns.{ONE-COL, RS1, SHIFT-OUT, HALT, IS-SHIFT, EQA}
+use Rattle.layout.specs.Columns.{ONE-COL, RS1, SHIFT-OUT, HALT, IS-LOAD, IS-SHIFT, LD-BYTE, EQA, CA, ZE16, ZE8}
 use Rattle.layout.specs.Batch.{allowed}
 use Rattle.circuit.specs.Rows.{numbered}
-use Rattle.circuit.specs.Circuit.{binFamilies, fldFamilies, circuitRows, circuitWords}
+use Rattle.circuit.specs.Circuit.{binFamilies, fldFamilies, circuitRows}
+use Rattle.strict.specs.declared.Known.{Known}
+use Rattle.strict.specs.declared.Known.the-variants.{House, Strict}
+use Rattle.strict.specs.Known.{listingOf, rowsEach}
 use Rattle.verdict.specs.declared.Verdict.the-variants.{Accepted}
 use Rattle.verdict.specs.Named.{named as namedIn}
 use Rattle.verdict.specs.Check.{judged}
@@ -45,29 +48,49 @@ abbrev flipped : List ℕ → ℕ → Bool
 flipped cs c = has (ONE-COL ∷ cs) c ⊻ bitAt (getD (withZeros all64) (c / 64) 0) (c % 64)
 
 pub record CycleExamples : Type 0 where
-  pub filled : judgedCycle (flipped []) zero ≡ true
+  pub filled : judgedCycle House (flipped []) zero ≡ true
   -- a derived column: the first that holds 1, or HALT
-  pub cleared : judgedCycle (flipped (EQA ∷ [])) zero ≡ false
-  pub set : judgedCycle (flipped (HALT ∷ [])) zero ≡ false
+  pub cleared : judgedCycle House (flipped (EQA ∷ [])) zero ≡ false
+  pub set : judgedCycle House (flipped (HALT ∷ [])) zero ≡ false
   -- condition 2 is not met: shift, and SHIFT_OUT is not ALU
-  pub shifts : judgedCycle (flipped (IS-SHIFT ∷ [])) zero ≡ true
-  pub shifts-else : judgedCycle (flipped (IS-SHIFT ∷ SHIFT-OUT ∷ [])) zero ≡ false
+  pub shifts : judgedCycle House (flipped (IS-SHIFT ∷ [])) zero ≡ true
+  pub shifts-else : judgedCycle House (flipped (IS-SHIFT ∷ SHIFT-OUT ∷ [])) zero ≡ false
+  -- by the strict conditions: a load of a byte, with its derived columns; a load of no width, which the ten let through
+  pub strict-filled : judgedCycle Strict (flipped []) zero ≡ true
+  pub loads-byte : judgedCycle Strict (flipped (IS-LOAD ∷ LD-BYTE ∷ CA ∷ ZE16 ∷ ZE8 ∷ [])) zero ≡ true
+  pub loads-none : judgedCycle Strict (flipped (IS-LOAD ∷ ZE16 ∷ ZE8 ∷ [])) zero ≡ false
+  pub loads-none-too : judgedCycle House (flipped (IS-LOAD ∷ ZE16 ∷ ZE8 ∷ [])) zero ≡ true
 
 pub cycle-examples : CycleExamples
 unfolding judgedCycle conditions byteOf carryWord runWord laneWord compareWord branchWord takenBit has val
-cycle-examples = record { filled = refl; cleared = refl; set = refl; shifts = refl; shifts-else = refl }
+cycle-examples =
+    record {
+      filled = refl;
+      cleared = refl;
+      set = refl;
+      shifts = refl;
+      shifts-else = refl;
+      strict-filled = refl;
+      loads-byte = refl;
+      loads-none = refl;
+      loads-none-too = refl;
+    }
 
 -- ---- the same cycle by its words, and two cycles
 
 pub record WordExamples : Type 0 where
-  pub cycle : judgedWords (λ k. getD (withZeros all64) k 0) zero ≡ true
-  pub cleared : judgedWords (λ k. getD (withZeros (all64 - 1)) k 0) zero ≡ false
-  pub two : allJudged (withZeros all64 ++ withZeros all64) zero 2 0 ≡ true
-  pub second-cleared : allJudged (withZeros all64 ++ withZeros (all64 - 1)) zero 2 0 ≡ false
+  pub cycle : (k : Known) → judgedWords k (λ i. getD (withZeros all64) i 0) zero ≡ true
+  pub cleared : judgedWords House (λ k. getD (withZeros (all64 - 1)) k 0) zero ≡ false
+  pub two : allJudged House (withZeros all64 ++ withZeros all64) zero 2 0 ≡ true
+  pub second-cleared : allJudged House (withZeros all64 ++ withZeros (all64 - 1)) zero 2 0 ≡ false
 
 pub word-examples : WordExamples
 unfolding judgedWords allJudged conditions byteOf carryWord runWord laneWord compareWord branchWord takenBit
-word-examples = record { cycle = refl; cleared = refl; two = refl; second-cleared = refl }
+word-examples = record { cycle = each; cleared = refl; two = refl; second-cleared = refl }
+  where
+    each : (k : Known) → judgedWords k (λ i. getD (withZeros all64) i 0) zero ≡ true
+    each House = refl
+    each Strict = refl
 
 -- ---- columns that some row names, and columns that none does
 
@@ -81,22 +104,22 @@ named-examples = record { some = (refl, refl); none = (refl, (refl, refl)) }
 
 -- ---- of every size, the idle batch, in which only the one column is 1, and the filler's of it
 
-module _ (cpi : ℕ) (some : 0 < cpi) where
+module _ (k : Known) (cpi : ℕ) (some : 0 < cpi) where
   pub record BatchExamples : Type 0 where
     pub over : OverBits cpi (filled cpi (idle cpi))
-    pub yes : JudgedYes cpi (filled cpi (idle cpi))
-    pub accepted : allowed cpi ≡ true → judged cpi circuitWords (filled cpi (idle cpi)) ≡ Accepted (514 * cpi)
-    pub short : allowed cpi ≡ true → shortYes cpi (filled cpi (idle cpi)) ≡ true
+    pub yes : JudgedYes k cpi (filled cpi (idle cpi))
+    pub accepted : allowed cpi ≡ true → judged cpi (listingOf k) (filled cpi (idle cpi)) ≡ Accepted (rowsEach k * cpi)
+    pub short : allowed cpi ≡ true → shortYes k cpi (filled cpi (idle cpi)) ≡ true
 
   pub batch-examples : BatchExamples
   batch-examples =
       let over = filled-over cpi some (idle cpi) (premises-of cpi some (λ d c. false)) in
-      let yes = judges-filled cpi some (idle cpi) (premises-of cpi some (λ d c. false)) .1 (idle-meets cpi some) in
-      let accepted : allowed cpi ≡ true → judged cpi circuitWords (filled cpi (idle cpi)) ≡ Accepted (514 * cpi) =
-      λ size. judges cpi size (filled cpi (idle cpi)) over .0 yes in
+      let yes = judges-filled cpi some (idle cpi) (premises-of cpi some (λ d c. false)) k .1 (idle-meets k cpi some) in
+      let accepted : allowed cpi ≡ true → judged cpi (listingOf k) (filled cpi (idle cpi)) ≡ Accepted (rowsEach k * cpi) =
+      λ size. judges k cpi size (filled cpi (idle cpi)) over .0 yes in
       record {
         over = over;
         yes = yes;
         accepted = accepted;
-        short = λ size. short-over cpi (filled cpi (idle cpi)) size over .1 (accepted size);
+        short = λ size. short-over k cpi (filled cpi (idle cpi)) size over .1 (accepted size);
       }

@@ -19,20 +19,21 @@ use Rattle.layout.specs.Laws.Sizes.{allowed-range}
 use Rattle.layout.specs.Laws.Questions.{if-yes, after-yes, yes-batch}
 use Rattle.layout.specs.Laws.Scratch.{someScratch, some-fits}
 use Rattle.layout.specs.Batch.{batchWords}
-use Rattle.circuit.specs.Circuit.{circuitWords}
+use Rattle.strict.specs.declared.Known.{Known}
+use Rattle.strict.specs.Known.{listingOf}
 use Rattle.verdict.specs.declared.CheckAnswer.{CheckAnswer}
 use Rattle.verdict.specs.declared.CheckAnswer.the-variants.{Judged, Refused}
 use Rattle.verdict.specs.Row.{elementAt}
-use Rattle.verdict.specs.Check.{judged, checked, houseChecked}
-use Rattle.verdict.specs.Laws.Agree.{house-agrees}
-use Rattle.step.specs.Step.{Step}
+use Rattle.verdict.specs.Check.{judged, checked, knownChecked}
+use Rattle.verdict.specs.Laws.Agree.{known-agrees}
+use Rattle.step.specs.Strict.{ConditionsOf}
 use Rattle.step.specs.Derived.{derivedIn}
 use Rattle.step.specs.Filling.{SameElsewhere, fillerBits, filled}
 use Rattle.step.specs.Demand3.{Premises, accepts, fails, Demand3}
 use Rattle.step.specs.Fill.{faulty, fillAsked, called, Passed}
 use Rattle.step.specs.Laws.FillingElements.{filling-length}
 use Rattle.step.specs.Laws.Batch.{same-filled}
-use Rattle.step.specs.Laws.Proved.{demand3}
+use Rattle.step.specs.Laws.Proved.{demand3-known}
 use Rattle.step.specs.Laws.FillAnswers.{all-passed, premises}
 use Rattle.judge.specs.FillCheck.{FillChecked, answerAfter, fillChecked, EveryStep, Promised}
 
@@ -66,62 +67,62 @@ yes-no : {r : Refusal} → No r ≡ Yes → ⊥
 yes-no e = let z : _≡_ {A = ℕ} 0 1 = cc in omega arith
 
 -- what a call comes to
-abbrev afterAsked : ℕ → List ℕ → Asked → FillChecked
-afterAsked cpi before q =
-    let c = after q (filled cpi before) before in record { answer = answerAfter cpi (c .answer) (c .batch); batch = c .batch }
+abbrev afterAsked : Known → ℕ → List ℕ → Asked → FillChecked
+afterAsked k cpi before q =
+    let c = after q (filled cpi before) before in record { answer = answerAfter k cpi (c .answer) (c .batch); batch = c .batch }
 
-of-asked : (cpi : ℕ) (before : List ℕ) (q : Asked) → fillAsked cpi before ≡ q → fillChecked cpi before ≡ afterAsked cpi before q
+of-asked : (k : Known) (cpi : ℕ) (before : List ℕ) (q : Asked) → fillAsked cpi before ≡ q → fillChecked k cpi before ≡ afterAsked k cpi before q
 unfolding fillChecked called
-of-asked cpi before q e = ap (afterAsked cpi before) e
+of-asked k cpi before q e = ap (afterAsked k cpi before) e
 
 -- a refusal is no verdict
-module _ (cpi : ℕ) (before : List ℕ) (r : Refusal) (e : fillAsked cpi before ≡ No r) where
-  pub refusal-promised : Promised cpi before (Refused r) before
+module _ (k : Known) (cpi : ℕ) (before : List ℕ) (r : Refusal) (e : fillAsked cpi before ≡ No r) where
+  pub refusal-promised : Promised k cpi before (Refused r) before
   refusal-promised =
       record {
-        result = sym (of-asked cpi before (No r) e);
-        refused = λ t f. (ap (λ (q : Asked). answerAfter cpi q before) (sym e ∙ f), refl);
+        result = sym (of-asked k cpi before (No r) e);
+        refused = λ t f. (ap (λ (q : Asked). answerAfter k cpi q before) (sym e ∙ f), refl);
         fills = λ f. absurd (yes-no (sym e ∙ f));
         accepted = (λ f. absurd (false≢true f), λ h. absurd (yes-no (sym e ∙ h .0)));
         failed = (λ f. absurd (false≢true f), λ h. absurd (yes-no (sym e ∙ h .0)));
         as-checked = λ f. absurd (yes-no (sym e ∙ f));
-        whatever = λ other s. ap (λ (c : FillChecked). c .answer) (of-asked cpi other (No r) (same-asked cpi other before s ∙ e));
+        whatever = λ other s. ap (λ (c : FillChecked). c .answer) (of-asked k cpi other (No r) (same-asked cpi other before s ∙ e));
       }
 
 -- what is filled is judged, and demand 3 says how
-module _ (cpi : ℕ) (before : List ℕ) (fit : (i : ℕ) → getD before i 0 < 2 ^ 64) (e : fillAsked cpi before ≡ Yes) where
+module _ (k : Known) (cpi : ℕ) (before : List ℕ) (fit : (i : ℕ) → getD before i 0 < 2 ^ 64) (e : fillAsked cpi before ≡ Yes) where
   p : Passed cpi before
   p = all-passed cpi before e
 
   met : Premises cpi before
   met = premises cpi before p fit
 
-  demand : Demand3 circuitWords Step cpi before someScratch
-  demand = demand3 cpi (p .size) before someScratch some-fits met
+  demand : Demand3 (listingOf k) (ConditionsOf k) cpi before someScratch
+  demand = demand3-known k cpi (p .size) before someScratch some-fits met
 
-  answer-is : houseChecked cpi (filled cpi before) ≡ checked cpi circuitWords (filled cpi before) someScratch .answer
-  answer-is = house-agrees cpi (filled cpi before) someScratch some-fits
+  answer-is : knownChecked k cpi (filled cpi before) ≡ checked cpi (listingOf k) (filled cpi before) someScratch .answer
+  answer-is = known-agrees k cpi (filled cpi before) someScratch some-fits
 
   filled-words : length (filled cpi before) ≡ batchWords cpi
   unfolding filled
   filled-words = filling-length cpi (fillerBits cpi before) before ∙ p .words
 
-  pub is-judged : houseChecked cpi (filled cpi before) ≡ Judged (judged cpi circuitWords (filled cpi before))
-  unfolding houseChecked
+  pub is-judged : knownChecked k cpi (filled cpi before) ≡ Judged (judged cpi (listingOf k) (filled cpi before))
+  unfolding knownChecked
   is-judged = sym (if-yes Refused _ (yes-batch cpi (length (filled cpi before)) (p .size) filled-words))
 
-  accepted-is : (accepts (houseChecked cpi (filled cpi before)) ≡ true) ↔ EveryStep cpi before
+  accepted-is : (accepts (knownChecked k cpi (filled cpi before)) ≡ true) ↔ EveryStep k cpi before
   accepted-is =
       let d = demand .accepted in (λ a. d .0 (sym (ap accepts answer-is) ∙ a), λ h. ap accepts answer-is ∙ d .1 h)
 
   -- a judged answer fails where it is not accepted
-  fails-is : fails (houseChecked cpi (filled cpi before)) ≡ not (accepts (houseChecked cpi (filled cpi before)))
+  fails-is : fails (knownChecked k cpi (filled cpi before)) ≡ not (accepts (knownChecked k cpi (filled cpi before)))
   fails-is = ap fails is-judged ∙ ap not (sym (ap accepts is-judged))
 
-  pub fill-promised : Promised cpi before (houseChecked cpi (filled cpi before)) (filled cpi before)
+  pub fill-promised : Promised k cpi before (knownChecked k cpi (filled cpi before)) (filled cpi before)
   fill-promised =
       record {
-        result = sym (of-asked cpi before Yes e);
+        result = sym (of-asked k cpi before Yes e);
         refused = λ r f. absurd (yes-no (sym f ∙ e));
         fills = λ f. refl;
         accepted = (λ a. (e, accepted-is .0 a), λ h. accepted-is .1 (h .1));
@@ -129,35 +130,35 @@ module _ (cpi : ℕ) (before : List ℕ) (fit : (i : ℕ) → getD before i 0 < 
           λ f. (e, λ h. true≢false (sym (accepted-is .1 h) ∙ not-true _ (sym fails-is ∙ f))),
           λ h. fails-is ∙ ap not (no-true _ (λ a. h .1 (accepted-is .0 a))),
         );
-        as-checked = λ f. house-agrees cpi (filled cpi before);
+        as-checked = λ f. known-agrees k cpi (filled cpi before);
         whatever = λ other s.
-            ap (λ (c : FillChecked). c .answer) (of-asked cpi other Yes (same-asked cpi other before s ∙ e))
-            ∙ ap (houseChecked cpi) (same-filled cpi (allowed-range cpi (p .size) .0) before met other s);
+            ap (λ (c : FillChecked). c .answer) (of-asked k cpi other Yes (same-asked cpi other before s ∙ e))
+            ∙ ap (knownChecked k cpi) (same-filled cpi (allowed-range cpi (p .size) .0) before met other s);
       }
 
 -- ---- as the entry has it: by the answer of the filler that was called
 
-module _ (cpi : ℕ) (before : List ℕ) {q : Asked} {batch : List ℕ}
+module _ (k : Known) (cpi : ℕ) (before : List ℕ) {q : Asked} {batch : List ℕ}
     (e : _≡_ {A = Called} (record { answer = q; batch = batch }) (called cpi before)) where
-  pub promised-no : {r : Refusal} → q ≡ No r → Promised cpi before (Refused r) batch
+  pub promised-no : {r : Refusal} → q ≡ No r → Promised k cpi before (Refused r) batch
   unfolding called
   promised-no {r} no-is =
       go (fillAsked cpi before) refl (ap (λ (c : Called). c .answer) (sym e) ∙ no-is) (ap (λ (c : Called). c .batch) e)
     where
       go : (a : Asked) → fillAsked cpi before ≡ a → after a (filled cpi before) before .answer ≡ No r
-          → batch ≡ after a (filled cpi before) before .batch → Promised cpi before (Refused r) batch
+          → batch ≡ after a (filled cpi before) before .batch → Promised k cpi before (Refused r) batch
       go Yes f h b = absurd (yes-no (sym h))
       go (No t) f h b =
-          subst (λ (u : List ℕ). Promised cpi before (Refused r) u) (sym b)
-          (subst (λ (x : CheckAnswer). Promised cpi before x before) (ap (λ (x : Asked). answerAfter cpi x before) h)
-          (refusal-promised cpi before t f))
+          subst (λ (u : List ℕ). Promised k cpi before (Refused r) u) (sym b)
+          (subst (λ (x : CheckAnswer). Promised k cpi before x before) (ap (λ (x : Asked). answerAfter k cpi x before) h)
+          (refusal-promised k cpi before t f))
 
-  pub promised-yes : q ≡ Yes → ((i : ℕ) → getD before i 0 < 2 ^ 64) → {x : CheckAnswer} → x ≡ houseChecked cpi batch
-      → Promised cpi before x batch
+  pub promised-yes : q ≡ Yes → ((i : ℕ) → getD before i 0 < 2 ^ 64) → {x : CheckAnswer} → x ≡ knownChecked k cpi batch
+      → Promised k cpi before x batch
   unfolding called
   promised-yes yes-is fit {x} f =
       let is-called = sym e ∙ ap (λ (a : Asked). record { answer = a; batch = batch }) yes-is in
       let y = after-yes (fillAsked cpi before) (filled cpi before) before batch is-called in
-      subst (λ (u : List ℕ). Promised cpi before x u) (sym (y .1))
-      (subst (λ (z : CheckAnswer). Promised cpi before z (filled cpi before)) (sym (f ∙ ap (houseChecked cpi) (y .1)))
-      (fill-promised cpi before fit (y .0)))
+      subst (λ (u : List ℕ). Promised k cpi before x u) (sym (y .1))
+      (subst (λ (z : CheckAnswer). Promised k cpi before z (filled cpi before)) (sym (f ∙ ap (knownChecked k cpi) (y .1)))
+      (fill-promised k cpi before fit (y .0)))

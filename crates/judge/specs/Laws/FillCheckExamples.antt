@@ -12,12 +12,15 @@ use Rattle.layout.specs.Batch.{allowed, batchWords, batchAsked}
 use Rattle.layout.specs.Questions.{no, Called}
 use Rattle.layout.specs.Laws.Scratch.{someScratch, some-fits}
 use Rattle.layout.specs.Laws.Sizes.{allowed-range}
+use Rattle.strict.specs.declared.Known.{Known}
+use Rattle.strict.specs.declared.Known.the-variants.{House, Strict}
+use Rattle.strict.specs.Known.{rowsEach}
 use Rattle.verdict.specs.declared.Verdict.{Verdict}
 use Rattle.verdict.specs.declared.Verdict.the-variants.{Accepted}
 use Rattle.verdict.specs.declared.CheckAnswer.{CheckAnswer}
 use Rattle.verdict.specs.declared.CheckAnswer.the-variants.{Judged, Refused}
-use Rattle.verdict.specs.Check.{Checked, houseChecked}
-use Rattle.verdict.specs.Laws.Agree.{house-agrees}
+use Rattle.verdict.specs.Check.{Checked, knownChecked}
+use Rattle.verdict.specs.Laws.Agree.{known-agrees}
 use Rattle.step.specs.Derived.{derived}
 use Rattle.step.specs.Filling.{filled}
 use Rattle.step.specs.Demand3.{fails}
@@ -32,30 +35,30 @@ use Rattle.judge.specs.Laws.Examples.{batch-examples}
 use Rattle.judge.specs.Laws.FillCheck.{is-judged, fill-promised}
 
 -- a batch is refused with a number and a place, and stays as it came
-abbrev pub RefusedAs : ℕ → ℕ → ℕ → List ℕ → Type 0
-RefusedAs cpi k place batch = fillChecked cpi batch ≡ record { answer = Refused (no k place); batch = batch }
+abbrev pub RefusedAs : Known → ℕ → ℕ → ℕ → List ℕ → Type 0
+RefusedAs k cpi number place batch = fillChecked k cpi batch ≡ record { answer = Refused (no number place); batch = batch }
 
-pub record OfSize (cpi : ℕ) : Type 0 where
-  pub accepted : fillChecked cpi (idle cpi) ≡ record { answer = Judged (Accepted (514 * cpi)); batch = filled cpi (idle cpi) }
-  -- in cycle k condition 2 is not met
-  pub failed : (k : ℕ) → k < cpi → fails (fillChecked cpi (batchOf cpi (shiftsIn k)) .answer) ≡ true
+pub record OfSize (k : Known) (cpi : ℕ) : Type 0 where
+  pub accepted : fillChecked k cpi (idle cpi) ≡ record { answer = Judged (Accepted (rowsEach k * cpi)); batch = filled cpi (idle cpi) }
+  -- in cycle d condition 2 is not met
+  pub failed : (d : ℕ) → d < cpi → fails (fillChecked k cpi (batchOf cpi (shiftsIn d)) .answer) ≡ true
   -- questions 11 and 12: a given column that is no bit, whatever bits stand elsewhere; the one column 0
   pub no-bit : (b : ℕ → ℕ → Bool) (c d l h : ℕ) → c < 2048 → derived c ≡ false → d < cpi → isBit (ofWords l h) ≡ false
-      → RefusedAs cpi 11 (c * cpi + d) (replaced (batchOf cpi b) (c * cpi + d) l h)
-  pub no-one : RefusedAs cpi 12 0 (replicate (batchWords cpi) 0)
+      → RefusedAs k cpi 11 (c * cpi + d) (replaced (batchOf cpi b) (c * cpi + d) l h)
+  pub no-one : RefusedAs k cpi 12 0 (replicate (batchWords cpi) 0)
 
 -- questions 1 and 2
-pub record Refusals : Type 0 where
-  pub no-size : RefusedAs 3 1 0 []
-  pub no-words : RefusedAs 2 2 0 (7 ∷ [])
+pub record Refusals (k : Known) : Type 0 where
+  pub no-size : RefusedAs k 3 1 0 []
+  pub no-words : RefusedAs k 2 2 0 (7 ∷ [])
 
 -- what the filler's call comes to
-as-called : (cpi : ℕ) (batch : List ℕ) {c : Called} → called cpi batch ≡ c
-    → fillChecked cpi batch ≡ record { answer = answerAfter cpi (c .answer) (c .batch); batch = c .batch }
+as-called : (k : Known) (cpi : ℕ) (batch : List ℕ) {c : Called} → called cpi batch ≡ c
+    → fillChecked k cpi batch ≡ record { answer = answerAfter k cpi (c .answer) (c .batch); batch = c .batch }
 unfolding fillChecked
-as-called cpi batch e = ap (λ (c : Called). record { answer = answerAfter cpi (c .answer) (c .batch); batch = c .batch }) e
+as-called k cpi batch e = ap (λ (c : Called). record { answer = answerAfter k cpi (c .answer) (c .batch); batch = c .batch }) e
 
-module _ (cpi : ℕ) (size : allowed cpi ≡ true) where
+module _ (k : Known) (cpi : ℕ) (size : allowed cpi ≡ true) where
   some : 0 < cpi
   some = allowed-range cpi size .0
 
@@ -64,33 +67,34 @@ module _ (cpi : ℕ) (size : allowed cpi ≡ true) where
     yes : fillAsked cpi (batchOf cpi b) ≡ Yes
     yes = passed-all cpi (batchOf cpi b) (passes cpi (batchOf cpi b) size (premises-of cpi some b))
 
-    call : Promised cpi (batchOf cpi b) (houseChecked cpi (filled cpi (batchOf cpi b))) (filled cpi (batchOf cpi b))
-    call = fill-promised cpi (batchOf cpi b) (premises-of cpi some b .fit) yes
+    call : Promised k cpi (batchOf cpi b) (knownChecked k cpi (filled cpi (batchOf cpi b))) (filled cpi (batchOf cpi b))
+    call = fill-promised k cpi (batchOf cpi b) (premises-of cpi some b .fit) yes
 
-    answer-is : fillChecked cpi (batchOf cpi b) .answer ≡ houseChecked cpi (filled cpi (batchOf cpi b))
+    answer-is : fillChecked k cpi (batchOf cpi b) .answer ≡ knownChecked k cpi (filled cpi (batchOf cpi b))
     answer-is = ap (λ (c : FillChecked). c .answer) (sym (call .result))
 
-  pub of-size : OfSize cpi
+  pub of-size : OfSize k cpi
   of-size =
       record {
         accepted = sym (call (λ d c. false) .result)
             ∙ ap (λ (a : CheckAnswer). record { answer = a; batch = filled cpi (idle cpi) })
-            (is-judged cpi (idle cpi) (premises-of cpi some (λ d c. false) .fit) (yes (λ d c. false))
-            ∙ ap Judged (batch-examples cpi some .accepted size));
-        failed = λ k l. ap fails (answer-is (shiftsIn k)) ∙ call (shiftsIn k) .failed .1 (yes (shiftsIn k), shift-meets-not cpi some k l);
+            (is-judged k cpi (idle cpi) (premises-of cpi some (λ d c. false) .fit) (yes (λ d c. false))
+            ∙ ap Judged (batch-examples k cpi some .accepted size));
+        failed = λ d l. ap fails (answer-is (shiftsIn d))
+            ∙ call (shiftsIn d) .failed .1 (yes (shiftsIn d), shift-meets-not k cpi some d l);
         no-bit = λ b c d l h m e n above.
-            as-called cpi (replaced (batchOf cpi b) (c * cpi + d) l h) (refuses cpi size .no-bit b c d l h m e n above);
-        no-one = as-called cpi (replicate (batchWords cpi) 0) (refuses cpi size .no-one);
+            as-called k cpi (replaced (batchOf cpi b) (c * cpi + d) l h) (refuses cpi size .no-bit b c d l h m e n above);
+        no-one = as-called k cpi (replicate (batchWords cpi) 0) (refuses cpi size .no-one);
       }
 
 -- a row that the filler fills as called, and the verdict on it: the bench sheet cites this of P6 to P9
-pub filled-and-judged : {row : List ℕ} {v : Verdict} → Gives row v → fillChecked 1 row ≡ record { answer = Judged v; batch = filled 1 row }
+pub filled-and-judged : {row : List ℕ} {v : Verdict} → Gives row v → fillChecked House 1 row ≡ record { answer = Judged v; batch = filled 1 row }
 filled-and-judged {row} {v} g =
-    as-called 1 row (g .fill)
+    as-called House 1 row (g .fill)
     ∙ ap (λ (a : CheckAnswer). record { answer = a; batch = filled 1 row })
-    (house-agrees 1 (filled 1 row) someScratch some-fits
+    (known-agrees House 1 (filled 1 row) someScratch some-fits
     ∙ ap (λ (c : Checked). c .answer) (g .check someScratch some-fits))
 
-pub refusals : Refusals
+pub refusals : (k : Known) → Refusals k
 unfolding fillChecked called fillAsked batchAsked allowed
-refusals = record { no-size = refl; no-words = refl }
+refusals k = record { no-size = refl; no-words = refl }

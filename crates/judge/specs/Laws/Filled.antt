@@ -1,4 +1,4 @@
--- What the filler makes of a batch: it is over bits, and is judged with yes exactly when every cycle meets the step conditions.
+-- What the filler makes of a batch: it is over bits, and is judged with yes exactly when every cycle meets the conditions.
 -- Assumes nothing.
 use mathlib.Core.Path.{_≡_, refl, sym, ap, subst, _∙_}
 use mathlib.Core.Logic.{_↔_}
@@ -13,13 +13,15 @@ use Rattle.field.specs.Gf.Tests.{isBit-bit}
 use Rattle.layout.specs.Columns.{ONE-COL}
 use Rattle.layout.specs.Laws.Mapping.{witness-column}
 use Rattle.layout.specs.Batch.{batchWords}
+use Rattle.strict.specs.declared.Known.{Known}
 use Rattle.verdict.specs.Row.{elementAt, cycleOf, bitsOf}
-use Rattle.step.specs.Step.{Step}
+use Rattle.step.specs.Strict.{ConditionsOf}
 use Rattle.step.specs.Filling.{fillerBits, filled}
 use Rattle.step.specs.Demand3.{Premises}
 use Rattle.step.specs.Laws.Derived.{derived-below, one-given}
 use Rattle.step.specs.Laws.Determining.{filled-only}
-use Rattle.step.specs.Laws.Given.{SameGiven, same-step}
+use Rattle.step.specs.Laws.Given.{SameGiven}
+use Rattle.step.specs.Laws.Strict.{same-conditions}
 use Rattle.step.specs.Laws.FillingElements.{filling-length, filling-elsewhere}
 use Rattle.step.specs.Laws.Batch.{one-bit, same-given, same-public, of-bits, filled-meets}
 use Rattle.judge.specs.Judged.{JudgedYes}
@@ -65,13 +67,15 @@ module _ (cpi : ℕ) (some : 0 < cpi) (batch : List ℕ) (p : Premises cpi batch
   filled-over = bits-over cpi W batch filled-words filled-bits public-same (p .fit) (p .one-is)
 
   -- it is judged with yes exactly when every cycle meets the conditions
-  pub judges-filled : JudgedYes cpi (filled cpi batch) ↔ ((d : ℕ) → d < cpi → Step (bitsOf cpi batch d) (cycleOf cpi batch d (ONE-COL + 1)))
-  judges-filled = (
-    λ y d l. let j = judged-exactly cpi W filled-words d l (one-set d l) _ .0 (y d l) in
-        same-step (bitsOf cpi W d) (bitsOf cpi batch d) (same-as-given d l) _ (subst (Step (bitsOf cpi W d)) (output-same d l) (j .0)),
-    λ s d l. judged-exactly cpi W filled-words d l (one-set d l) _ .1 (
-      subst (Step (bitsOf cpi W d)) (sym (output-same d l))
-          (same-step (bitsOf cpi batch d) (bitsOf cpi W d) (λ c e. sym (same-as-given d l c e)) _ (s d l)),
+  pub judges-filled : (k : Known) → JudgedYes k cpi (filled cpi batch)
+      ↔ ((d : ℕ) → d < cpi → ConditionsOf k (bitsOf cpi batch d) (cycleOf cpi batch d (ONE-COL + 1)))
+  judges-filled k = (
+    λ y d l. let j = judged-exactly cpi W filled-words d l (one-set d l) k _ .0 (y d l) in
+        same-conditions k (bitsOf cpi W d) (bitsOf cpi batch d) (same-as-given d l) _
+        (subst (ConditionsOf k (bitsOf cpi W d)) (output-same d l) (j .0)),
+    λ s d l. judged-exactly cpi W filled-words d l (one-set d l) k _ .1 (
+      subst (ConditionsOf k (bitsOf cpi W d)) (sym (output-same d l))
+          (same-conditions k (bitsOf cpi batch d) (bitsOf cpi W d) (λ c e. sym (same-as-given d l c e)) _ (s d l)),
       λ c e.
           filled-only (bitsOf cpi W d) (one-set d l) (bitsOf cpi W d) (λ _ _. refl) (filled-meets cpi some batch p d l) c
           (derived-below c e),

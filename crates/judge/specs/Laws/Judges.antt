@@ -1,11 +1,11 @@
--- Over bits, every cycle is judged with yes exactly when the check accepts.
+-- Over bits, every cycle is judged with yes exactly when the check accepts, over the house listing and over the strict one.
 -- Assumes nothing.
 use mathlib.Core.Path.{_≡_, refl, sym, ap, subst, _∙_}
 use mathlib.Core.Logic.{_↔_}
 use mathlib.Core.Bool.{Bool, true}
-use mathlib.Core.List.{List, []}
+use mathlib.Core.List.{List}
 use Prim.Native.Nat.{ℕ, _+_, _*_, _/_, _%_, _^_, _≤_, _<_}
-use native.Mathlib.Nat.{mod-lt, div-add-mod', div-lt-iff-lt-mul}
+use native.Mathlib.Nat.{mul-comm, mod-lt, div-add-mod', div-lt-iff-lt-mul}
 use native.Mathlib.Decide.{decLt}
 use native.Mathlib.Omega.{arith}
 use lib.Arith.{digits-lt}
@@ -22,14 +22,15 @@ use Rattle.layout.specs.Columns.{ONE-COL}
 use Rattle.layout.specs.Batch.{allowed, batchWords}
 use Rattle.layout.specs.Laws.Sizes.{allowed-range}
 use Rattle.layout.specs.Laws.Mapping.{witness-column}
-use Rattle.circuit.specs.Circuit.{circuitWords}
-use Rattle.circuit.specs.Parse.{rowsOf}
-use Rattle.circuit.specs.Laws.House.{words-read, counts}
+use Rattle.strict.specs.declared.Known.{Known}
+use Rattle.strict.specs.Known.{listingOf, furtherRows, rowsEach}
+use Rattle.strict.specs.Laws.Known.{row-count}
 use Rattle.verdict.specs.declared.Verdict.the-variants.{Accepted}
-use Rattle.verdict.specs.Row.{elementAt, cycleOf, bitsOf}
+use Rattle.verdict.specs.Row.{elementAt, cycleOf, holds, bitsOf}
 use Rattle.verdict.specs.Check.{judged}
 use Rattle.verdict.specs.Laws.Verdicts.{EveryRowHolds}
 use Rattle.step.specs.Step.{Step}
+use Rattle.step.specs.Strict.{ConditionsOf}
 use Rattle.step.specs.Derived.{derived}
 use Rattle.step.specs.Solve.{Holds}
 use Rattle.step.specs.Determining.{determining, filledBits}
@@ -38,8 +39,10 @@ use Rattle.step.specs.Demand3.{Premises}
 use Rattle.step.specs.Laws.Derived.{derived-below}
 use Rattle.step.specs.Laws.Determining.{filled-only}
 use Rattle.step.specs.Laws.FillingElements.{each-word, is-filling}
-use Rattle.step.specs.Laws.Batch.{RowsHold, one-bit, split, is-filled, rows-or-conditions}
-use Rattle.step.specs.Laws.Listings.{cycle-rows, house}
+use Rattle.step.specs.Laws.Cycle.{OfBits, all-bin}
+use Rattle.step.specs.Laws.Batch.{RowsHold, one-bit, of-bits, split, is-filled, rows-or-conditions}
+use Rattle.step.specs.Laws.Listings.{cycle-rows, listed}
+use Rattle.step.specs.Laws.Strict.{meaning}
 use Rattle.judge.specs.Judged.{judgedCycle, JudgedYes}
 use Rattle.judge.specs.Judges.{OverBits}
 use Rattle.judge.specs.Laws.Exactly.{judged-exactly}
@@ -64,7 +67,7 @@ pub bits-over : (cpi : ℕ) (u w : List ℕ) → length u ≡ batchWords cpi →
 bits-over cpi u w words bits same fit one-is =
     record { words = words; fit = bits-fit cpi u w bits same fit; bits = bits; one-is = same (2048 * cpi) (omega arith) ∙ one-is }
 
-module _ (cpi : ℕ) (size : allowed cpi ≡ true) (batch : List ℕ) (o : OverBits cpi batch) where
+module _ (k : Known) (cpi : ℕ) (size : allowed cpi ≡ true) (batch : List ℕ) (o : OverBits cpi batch) where
   some : 0 < cpi
   some = allowed-range cpi size .0
 
@@ -97,8 +100,24 @@ module _ (cpi : ℕ) (size : allowed cpi ≡ true) (batch : List ℕ) (o : OverB
   abbrev DerivedFilled : ℕ → Type 0
   DerivedFilled d = (c : ℕ) → derived c ≡ true → bits d c ≡ filledBits (bits d) c
 
-  exactly : (d : ℕ) → d < cpi → (judgedCycle (bits d) (output d) ≡ true) ↔ (Step (bits d) (output d) × DerivedFilled d)
-  exactly d l = judged-exactly cpi batch (o .words) d l (one-bit cpi some batch premises d) (output d)
+  exactly : (d : ℕ) → d < cpi → (judgedCycle k (bits d) (output d) ≡ true) ↔ (ConditionsOf k (bits d) (output d) × DerivedFilled d)
+  exactly d l = judged-exactly cpi batch (o .words) d l (one-bit cpi some batch premises d) k (output d)
+
+  -- it is a filling, with its own bits
+  own : batch ≡ filling cpi v batch
+  own = is-filling cpi v batch batch (o .words) itself (λ x l e. is-bit x l)
+
+  -- ---- the rows that the listing adds, and what they say
+
+  abbrev Further : ℕ → Type 0
+  Further d = All (λ s. holds (cycleOf cpi batch d) s ≡ true) (furtherRows k)
+
+  conditions-are : (d : ℕ) → d < cpi → ConditionsOf k (bits d) (output d) ↔ (Step (bits d) (output d) × Further d)
+  conditions-are d l =
+      let of = subst (λ (u : List ℕ). OfBits (cycleOf cpi u d) (bitsOf cpi u d)) (sym own) (of-bits cpi some batch premises v d l) in
+      let over = all-bin (cycleOf cpi batch d) (bits d) of (furtherRows k) (listed k .over-bits) in
+      let m = meaning k (bits d) (output d) (one-bit cpi some batch premises d) in
+      (λ c. let s = m .0 c in (s .0, over .1 (s .1)), λ s. m .1 (s .0, over .0 (s .1)))
 
   -- ---- judged with yes, it is its own filling, and the rows hold of what meets the conditions
 
@@ -113,28 +132,25 @@ module _ (cpi : ℕ) (size : allowed cpi ≡ true) (batch : List ℕ) (o : OverB
       is-filling cpi (fillerBits cpi batch) batch batch (o .words) itself
       (λ x l e. is-bit x l ∙ ap (λ (b : Bool). ofBit b) (at-column x l ∙ h (x % cpi) (mod-lt x some) (x / cpi) e))
 
-  rows-count : length (rowsOf circuitWords) ≡ 514
-  rows-count = ap length words-read ∙ counts .rows
-
-  yes-accepts : JudgedYes cpi batch → judged cpi circuitWords batch ≡ Accepted (514 * cpi)
+  yes-accepts : JudgedYes k cpi batch → judged cpi (listingOf k) batch ≡ Accepted (rowsEach k * cpi)
   yes-accepts y =
       let e = own-filling (λ d l. exactly d l .0 (y d l) .1) in
-      verdicts.accepts cpi circuitWords batch
-      (λ d l. cycle-rows circuitWords [] house (cycleOf cpi batch d) .1 (
-        subst (λ (u : List ℕ). RowsHold (cycleOf cpi u d)) (sym e)
-            (rows-or-conditions cpi some batch premises d l .1 (exactly d l .0 (y d l) .0)),
-        tt,
+      verdicts.accepts cpi (listingOf k) batch
+      (λ d l. let met = conditions-are d l .0 (exactly d l .0 (y d l) .0) in
+      cycle-rows (listingOf k) (furtherRows k) (listed k) (cycleOf cpi batch d) .1 (
+        subst (λ (u : List ℕ). RowsHold (cycleOf cpi u d)) (sym e) (rows-or-conditions cpi some batch premises d l .1 (met .0)),
+        met .1,
       ))
-      ∙ ap Accepted (omega (arith, ap (_*_ cpi) rows-count))
+      ∙ ap Accepted (ap (_*_ cpi) (row-count k) ∙ mul-comm cpi (rowsEach k))
 
   -- ---- and back: where every row holds, the determining rows do
 
-  module _ (h : EveryRowHolds cpi circuitWords batch) where
-    rows-hold : (d : ℕ) → d < cpi → RowsHold (cycleOf cpi batch d)
-    rows-hold d l = cycle-rows circuitWords [] house (cycleOf cpi batch d) .0 (h d l) .0
+  module _ (h : EveryRowHolds cpi (listingOf k) batch) where
+    all-rows : (d : ℕ) → d < cpi → RowsHold (cycleOf cpi batch d) × Further d
+    all-rows d l = cycle-rows (listingOf k) (furtherRows k) (listed k) (cycleOf cpi batch d) .0 (h d l)
 
-    own : batch ≡ filling cpi v batch
-    own = is-filling cpi v batch batch (o .words) itself (λ x l e. is-bit x l)
+    rows-hold : (d : ℕ) → d < cpi → RowsHold (cycleOf cpi batch d)
+    rows-hold d l = all-rows d l .0
 
     determined : (d : ℕ) → d < cpi → All (Holds (bitsOf cpi (filling cpi v batch) d)) determining
     determined d l = split cpi some batch premises v d l (subst (λ (u : List ℕ). RowsHold (cycleOf cpi u d)) own (rows-hold d l)) .0
@@ -149,8 +165,8 @@ module _ (cpi : ℕ) (size : allowed cpi ≡ true) (batch : List ℕ) (o : OverB
         rows-or-conditions cpi some batch premises d l .0
         (subst (λ (u : List ℕ). RowsHold (cycleOf cpi u d)) (own ∙ is-filled cpi some batch premises v determined) (rows-hold d l))
 
-    judged-again : JudgedYes cpi batch
-    judged-again d l = exactly d l .1 (meets d l, derived-filled d l)
+    judged-again : JudgedYes k cpi batch
+    judged-again d l = exactly d l .1 (conditions-are d l .1 (meets d l, all-rows d l .1), derived-filled d l)
 
-  pub judges : JudgedYes cpi batch ↔ (judged cpi circuitWords batch ≡ Accepted (514 * cpi))
-  judges = (yes-accepts, λ e. judged-again (verdicts.accepted cpi circuitWords batch (514 * cpi) e))
+  pub judges : JudgedYes k cpi batch ↔ (judged cpi (listingOf k) batch ≡ Accepted (rowsEach k * cpi))
+  judges = (yes-accepts, λ e. judged-again (verdicts.accepted cpi (listingOf k) batch (rowsEach k * cpi) e))

@@ -3,7 +3,7 @@
 use mathlib.Core.Path.{_≡_, refl, sym, ap, subst, fun-ext, _∙_}
 use mathlib.Core.Logic.{_↔_}
 use mathlib.Core.Bool.{Bool, true, _&&_, _||_, or-true}
-use mathlib.Core.List.{List, [], _∷_}
+use mathlib.Core.List.{List, [], _∷_, _++_}
 use Prim.Native.Nat.{ℕ, _+_, _*_, _/_, _≤_, _<_}
 use native.Mathlib.Decide.{decLt}
 use native.Mathlib.Omega.{arith}
@@ -12,7 +12,7 @@ use lib.Arith.{digits-lt}
 use lib.Dec.{eqb, leb}
 use lib.ListN.{length}
 use Rattle.base.specs.Lists.{All, joined, from, fromEach}
-use Rattle.base.specs.Laws.Lists.{all-left, all-right}
+use Rattle.base.specs.Laws.Lists.{all-append, all-left, all-right}
 use Rattle.base.specs.Laws.Tests.{both}
 use Rattle.field.specs.declared.Gf128.{Gf128}
 use Rattle.field.specs.Gf.{low, isBit, odd, ofBit}
@@ -22,10 +22,16 @@ use Rattle.layout.specs.Columns.{ONE-COL}
 use Rattle.layout.specs.Batch.{allowed, among, columnAt, batchWords}
 use Rattle.layout.specs.Laws.Sizes.{among-each}
 use Rattle.layout.specs.Laws.Mapping.{witness-column, public-column}
-use Rattle.circuit.specs.Rows.{Row, numbered}
-use Rattle.circuit.specs.Circuit.{binFamilies, fldFamilies, circuitRows, circuitWords}
+use Rattle.circuit.specs.declared.Relation.the-variants.{Bin, Fld}
+use Rattle.circuit.specs.Rows.{Sides, Row, numbered}
+use Rattle.circuit.specs.Circuit.{binFamilies, fldFamilies, circuitRows}
 use Rattle.circuit.specs.Parse.{rowsOf}
-use Rattle.circuit.specs.Laws.House.{words-read}
+use Rattle.circuit.specs.Laws.Families.{all-numbered}
+use Rattle.strict.specs.declared.Known.{Known}
+use Rattle.strict.specs.declared.Known.the-variants.{House, Strict}
+use Rattle.strict.specs.Rows.{flagRows, rowsWith}
+use Rattle.strict.specs.Known.{listingOf, furtherRows, rowsEach}
+use Rattle.strict.specs.Laws.Known.{rows-are}
 use Rattle.verdict.specs.declared.Verdict.the-variants.{Accepted}
 use Rattle.verdict.specs.Row.{elementAt, cycleOf, holds, bitsOf}
 use Rattle.verdict.specs.Named.{namedBy, named as namedIn}
@@ -89,7 +95,49 @@ rows-agree y z (r ∷ rs) h = (
   rows-agree y z rs (all-right _ (namedBy (r .sides)) (namedColumns rs) h),
 )
 
-module _ (cpi : ℕ) (size : allowed cpi ≡ true) (batch : List ℕ) (o : NamedBits cpi batch) where
+-- the rows that a known listing adds name no other columns, by one computed test
+allNamed : List ℕ → Bool
+allNamed [] = true
+allNamed (c ∷ cs) = named c && allNamed cs
+
+eachNamed : List Sides → Bool
+eachNamed [] = true
+eachNamed (s ∷ ss) = allNamed (namedBy s) && eachNamed ss
+
+further-named : (k : Known) → eachNamed (furtherRows k) ≡ true
+unfolding eachNamed allNamed flagRows named namedColumns namedIn circuitRows binFamilies fldFamilies from fromEach joined numbered
+further-named House = refl
+further-named Strict = refl
+
+module _ (y z : ℕ → Gf128) (same : (c : ℕ) → named c ≡ true → y c ≡ z c) where
+  abbrev Alike : Sides → Type 0
+  Alike s = holds y s ≡ holds z s
+
+  columns-same : (cs : List ℕ) → allNamed cs ≡ true → All (λ c. y c ≡ z c) cs
+  unfolding allNamed
+  columns-same [] e = tt
+  columns-same (c ∷ cs) e = let p = both (named c) (allNamed cs) e in (same c (p .0), columns-same cs (p .1))
+
+  sides-alike : (ss : List Sides) → eachNamed ss ≡ true → All Alike ss
+  unfolding eachNamed
+  sides-alike [] e = tt
+  sides-alike (s ∷ ss) e =
+      let p = both (allNamed (namedBy s)) (eachNamed ss) e in
+      (holds-depends y z s (columns-same (namedBy s) (p .0)), sides-alike ss (p .1))
+
+  -- so every row of a known listing holds alike
+  known-alike : (k : Known) → All (λ r. Alike (r .sides)) (rowsWith (furtherRows k))
+  unfolding named circuitRows
+  known-alike k =
+      let house = rows-agree y z circuitRows (all-among _ (namedColumns circuitRows) same) in
+      let bins = joined binFamilies in let flds = numbered Fld 0 (joined fldFamilies) in let further = furtherRows k in
+      all-append (λ r. Alike (r .sides)) (numbered Bin 0 (bins ++ further)) flds
+      (all-numbered Alike Bin 0 (bins ++ further) .1
+      (all-append Alike bins further (all-numbered Alike Bin 0 bins .0 (all-left _ (numbered Bin 0 bins) flds house))
+      (sides-alike further (further-named k))))
+      (all-right _ (numbered Bin 0 bins) flds house)
+
+module _ (k : Known) (cpi : ℕ) (size : allowed cpi ≡ true) (batch : List ℕ) (o : NamedBits cpi batch) where
   abbrev v : ℕ → Bool
   v x = eqb (low (elementAt batch x)) 1
 
@@ -139,22 +187,23 @@ module _ (cpi : ℕ) (size : allowed cpi ≡ true) (batch : List ℕ) (o : Named
         | no f ↦ public-cycle d c (omega arith)
       ]
 
-  verdict-same : judged cpi circuitWords W ≡ judged cpi circuitWords batch
-  unfolding judged named
+  verdict-same : judged cpi (listingOf k) W ≡ judged cpi (listingOf k) batch
+  unfolding judged
   verdict-same =
-      run-same (met (cycleOf cpi W)) (met (cycleOf cpi batch)) (constraints cpi (rowsOf circuitWords)) 0
-      (every-constraint (λ k. met (cycleOf cpi W) k ≡ met (cycleOf cpi batch) k) cpi (rowsOf circuitWords) .1
+      run-same (met (cycleOf cpi W)) (met (cycleOf cpi batch)) (constraints cpi (rowsOf (listingOf k))) 0
+      (every-constraint (λ c. met (cycleOf cpi W) c ≡ met (cycleOf cpi batch) c) cpi (rowsOf (listingOf k)) .1
       (λ d l.
-      subst (λ (rs : List Row). All (λ r. holds (cycleOf cpi W d) (r .sides) ≡ holds (cycleOf cpi batch d) (r .sides)) rs) (sym words-read)
-      (rows-agree (cycleOf cpi W d) (cycleOf cpi batch d) circuitRows (all-among _ (namedColumns circuitRows) (named-same d l)))))
+      subst (λ (rs : List Row). All (λ r. holds (cycleOf cpi W d) (r .sides) ≡ holds (cycleOf cpi batch d) (r .sides)) rs) (sym (rows-are k))
+      (known-alike (cycleOf cpi W d) (cycleOf cpi batch d) (named-same d l) k)))
 
   judgement-same : (d : ℕ) → d < cpi
-      → judgedCycle (bitsOf cpi W d) (cycleOf cpi W d (ONE-COL + 1)) ≡ judgedCycle (bitsOf cpi batch d) (cycleOf cpi batch d (ONE-COL + 1))
+      → judgedCycle k (bitsOf cpi W d) (cycleOf cpi W d (ONE-COL + 1))
+      ≡ judgedCycle k (bitsOf cpi batch d) (cycleOf cpi batch d (ONE-COL + 1))
   judgement-same d l = cc (bits-same d l, public-cycle d (ONE-COL + 1) (omega arith))
 
-  pub judges-named : JudgedYes cpi batch ↔ (judged cpi circuitWords batch ≡ Accepted (514 * cpi))
+  pub judges-named : JudgedYes k cpi batch ↔ (judged cpi (listingOf k) batch ≡ Accepted (rowsEach k * cpi))
   judges-named =
-      let j = judges cpi size W W-over in (
+      let j = judges k cpi size W W-over in (
         λ y. sym verdict-same ∙ j .0 (λ d l. judgement-same d l ∙ y d l),
         λ e d l. sym (judgement-same d l) ∙ j .1 (verdict-same ∙ e) d l,
       )

@@ -19,14 +19,16 @@ use Rattle.layout.specs.declared.Asked.the-variants.{Yes, No}
 use Rattle.layout.specs.Batch.{allowed, batchWords, batchAsked}
 use Rattle.layout.specs.Laws.Questions.{if-yes, batch-yes, yes-batch}
 use Rattle.layout.specs.Laws.Sizes.{allowed-range}
-use Rattle.circuit.specs.Circuit.{circuitWords}
 use Rattle.circuit.specs.Valid.{validated}
-use Rattle.circuit.specs.Laws.House.{in-order}
+use Rattle.strict.specs.declared.Known.{Known}
+use Rattle.strict.specs.declared.Known.the-variants.{House, Strict}
+use Rattle.strict.specs.Known.{listingOf, rowsEach}
+use Rattle.strict.specs.Laws.Known.{in-order}
 use Rattle.verdict.specs.declared.Verdict.{Verdict}
 use Rattle.verdict.specs.declared.Verdict.the-variants.{Accepted}
 use Rattle.verdict.specs.declared.CheckAnswer.the-variants.{Judged, Refused as NoCheck}
 use Rattle.verdict.specs.Row.{elementAt}
-use Rattle.verdict.specs.Check.{Checked, after, asked, judged, checked, houseChecked}
+use Rattle.verdict.specs.Check.{Checked, after, asked, judged, checked, knownChecked}
 use Rattle.packed.specs.declared.Packing.{Packing}
 use Rattle.packed.specs.declared.Packing.the-variants.{Bits, NotBits, Refused}
 use Rattle.packed.specs.Packed.{NamedCalled, answerOf, namedCalled, packedAt, packedNamed, bitsFrom, namedBits}
@@ -48,33 +50,33 @@ is-yes : (q : Asked) → isYes q ≡ true → q ≡ Yes
 is-yes Yes e = refl
 is-yes (No r) e = absurd (false≢true e)
 
-pub record Parts (cpi : ℕ) (batch : List ℕ) : Type 0 where
+pub record Parts (k : Known) (cpi : ℕ) (batch : List ℕ) : Type 0 where
   pub asked : batchAsked cpi (length batch) ≡ Yes
   pub one-is : elementAt batch (2048 * cpi) ≡ one
   pub bits : namedBits cpi batch ≡ true
-  pub cycles : allJudged (packedNamed cpi batch (replicate (32 * cpi) 0)) (elementAt batch (2048 * cpi + 1)) cpi 0 ≡ true
+  pub cycles : allJudged k (packedNamed cpi batch (replicate (32 * cpi) 0)) (elementAt batch (2048 * cpi + 1)) cpi 0 ≡ true
 
-parts : (cpi : ℕ) (batch : List ℕ) → shortYes cpi batch ≡ true → Parts cpi batch
+parts : (k : Known) (cpi : ℕ) (batch : List ℕ) → shortYes k cpi batch ≡ true → Parts k cpi batch
 unfolding shortYes shortBits
-parts cpi batch e =
+parts k cpi batch e =
     let a = both _ _ e in let b = both _ _ (a .1) in let c = both _ _ (b .1) in
     record { asked = is-yes _ (a .0); one-is = same-true _ _ (b .0); bits = c .0; cycles = c .1 }
 
 -- the cycles are judged from what is packed into zeros
-packed-cycles : (cpi : ℕ) → 0 < cpi → (batch : List ℕ) → namedBits cpi batch ≡ true
-    → (allJudged (packedNamed cpi batch (replicate (32 * cpi) 0)) (elementAt batch (2048 * cpi + 1)) cpi 0 ≡ true) ↔ JudgedYes cpi batch
-packed-cycles cpi some batch bits =
-    packed-batch cpi batch (packedNamed cpi batch (replicate (32 * cpi) 0))
-    (λ d k l t.
-    packed-at cpi batch (replicate (32 * cpi) 0) (length-replicate (32 * cpi) 0) d k l t ∙ packed-word cpi some batch bits d l k t)
+packed-cycles : (k : Known) (cpi : ℕ) → 0 < cpi → (batch : List ℕ) → namedBits cpi batch ≡ true
+    → (allJudged k (packedNamed cpi batch (replicate (32 * cpi) 0)) (elementAt batch (2048 * cpi + 1)) cpi 0 ≡ true) ↔ JudgedYes k cpi batch
+packed-cycles k cpi some batch bits =
+    packed-batch k cpi batch (packedNamed cpi batch (replicate (32 * cpi) 0))
+    (λ d i l t.
+    packed-at cpi batch (replicate (32 * cpi) 0) (length-replicate (32 * cpi) 0) d i l t ∙ packed-word cpi some batch bits d l i t)
 
 -- a word of the code has 64 bits
-pub short-accepts : (cpi : ℕ) (batch : List ℕ) → ((i : ℕ) → getD batch i 0 < 2 ^ 64) → shortYes cpi batch ≡ true
-    → judged cpi circuitWords batch ≡ Accepted (514 * cpi)
-short-accepts cpi batch fit e = judges-named cpi (size .0) batch named-bits .0 yes
+pub short-accepts : (k : Known) (cpi : ℕ) (batch : List ℕ) → ((i : ℕ) → getD batch i 0 < 2 ^ 64) → shortYes k cpi batch ≡ true
+    → judged cpi (listingOf k) batch ≡ Accepted (rowsEach k * cpi)
+short-accepts k cpi batch fit e = judges-named k cpi (size .0) batch named-bits .0 yes
   where
-    p : Parts cpi batch
-    p = parts cpi batch e
+    p : Parts k cpi batch
+    p = parts k cpi batch e
 
     size : (allowed cpi ≡ true) × (length batch ≡ batchWords cpi)
     size = batch-yes cpi (length batch) (p .asked)
@@ -91,28 +93,28 @@ short-accepts cpi batch fit e = judges-named cpi (size .0) batch named-bits .0 y
           one-is = p .one-is;
         }
 
-    yes : JudgedYes cpi batch
-    yes = packed-cycles cpi some batch (p .bits) .0 (p .cycles)
+    yes : JudgedYes k cpi batch
+    yes = packed-cycles k cpi some batch (p .bits) .0 (p .cycles)
 
 -- ---- and nothing is missed: of named columns that are bits it says yes exactly where the check accepts
 
-pub short-exactly : (cpi : ℕ) (batch : List ℕ) → allowed cpi ≡ true → NamedBits cpi batch → namedBits cpi batch ≡ true
-    → (shortYes cpi batch ≡ true) ↔ (judged cpi circuitWords batch ≡ Accepted (514 * cpi))
+pub short-exactly : (k : Known) (cpi : ℕ) (batch : List ℕ) → allowed cpi ≡ true → NamedBits cpi batch → namedBits cpi batch ≡ true
+    → (shortYes k cpi batch ≡ true) ↔ (judged cpi (listingOf k) batch ≡ Accepted (rowsEach k * cpi))
 unfolding shortYes shortBits
-short-exactly cpi batch size n bits = (
-  short-accepts cpi batch (n .fit),
+short-exactly k cpi batch size n bits = (
+  short-accepts k cpi batch (n .fit),
   λ a.
       ap₂ _&&_ (ap isYes (yes-batch cpi (length batch) size (n .words)))
       (ap₂ _&&_ (ap (λ (x : Gf128). same x one) (n .one-is) ∙ same-self one)
-      (ap₂ _&&_ bits (packed-cycles cpi (allowed-range cpi size .0) batch bits .1 (judges-named cpi size batch n .1 a)))),
+      (ap₂ _&&_ bits (packed-cycles k cpi (allowed-range cpi size .0) batch bits .1 (judges-named k cpi size batch n .1 a)))),
 )
 
 -- so over bits, whatever stands in columns that no row names
-pub short-over : (cpi : ℕ) (batch : List ℕ) → allowed cpi ≡ true → OverBits cpi batch
-    → (shortYes cpi batch ≡ true) ↔ (judged cpi circuitWords batch ≡ Accepted (514 * cpi))
+pub short-over : (k : Known) (cpi : ℕ) (batch : List ℕ) → allowed cpi ≡ true → OverBits cpi batch
+    → (shortYes k cpi batch ≡ true) ↔ (judged cpi (listingOf k) batch ≡ Accepted (rowsEach k * cpi))
 unfolding namedBits
-short-over cpi batch size o =
-    short-exactly cpi batch size (over-named cpi batch o)
+short-over k cpi batch size o =
+    short-exactly k cpi batch size (over-named cpi batch o)
     (ap₂ _&&_ (stretch 0 (960 * cpi) (omega arith)) (stretch (1024 * cpi) (128 * cpi) (omega arith)))
   where
     stretch : (x n : ℕ) → x + n ≤ 2048 * cpi → bitsFrom batch x n ≡ true
@@ -120,41 +122,49 @@ short-over cpi batch size o =
 
 -- ---- as the entries have it
 
-pub house-short : (cpi : ℕ) (batch : List ℕ) → ((i : ℕ) → getD batch i 0 < 2 ^ 64) → shortYes cpi batch ≡ true
-    → Judged (Accepted (514 * cpi)) ≡ houseChecked cpi batch
-unfolding houseChecked
-house-short cpi batch fit e =
-    ap Judged (sym (short-accepts cpi batch fit e)) ∙ if-yes NoCheck _ (parts cpi batch e .asked)
+module _ (k : Known) (cpi : ℕ) where
+  pub known-short : (batch : List ℕ) → ((i : ℕ) → getD batch i 0 < 2 ^ 64) → shortYes k cpi batch ≡ true
+      → Judged (Accepted (rowsEach k * cpi)) ≡ knownChecked k cpi batch
+  unfolding knownChecked
+  known-short batch fit e =
+      ap Judged (sym (short-accepts k cpi batch fit e)) ∙ if-yes NoCheck _ (parts k cpi batch e .asked)
 
-pub row-short : (cpi : ℕ) (listing batch scratch : List ℕ) → ((i : ℕ) → getD batch i 0 < 2 ^ 64)
-    → ShortRow cpi listing batch (length scratch)
-    → _≡_ {A = Checked} (after Yes (Accepted (514 * cpi)) scratch) (checked cpi listing batch scratch)
-unfolding checked asked
-row-short cpi listing batch scratch fit h =
-    ap (λ (v : Verdict). after Yes v scratch)
-    (sym (short-accepts cpi batch fit (h .yes)) ∙ ap (λ (ws : List ℕ). judged cpi ws batch) (sym (h .house)))
-    ∙ ap (λ (q : Asked). after q (judged cpi listing batch) scratch)
-    (sym in-order ∙ ap validated (sym (h .house)) ∙ passed _ _ _ (h .scratch) ∙ if-yes No _ (parts cpi batch (h .yes) .asked))
+  pub row-short : (listing batch scratch : List ℕ) → ((i : ℕ) → getD batch i 0 < 2 ^ 64) → ShortRow k cpi listing batch (length scratch)
+      → _≡_ {A = Checked} (after Yes (Accepted (rowsEach k * cpi)) scratch) (checked cpi listing batch scratch)
+  unfolding checked asked
+  row-short listing batch scratch fit h =
+      ap (λ (v : Verdict). after Yes v scratch)
+      (sym (short-accepts k cpi batch fit (h .yes)) ∙ ap (λ (ws : List ℕ). judged cpi ws batch) (sym (h .known)))
+      ∙ ap (λ (q : Asked). after q (judged cpi listing batch) scratch)
+      (sym (in-order k) ∙ ap validated (sym (h .known)) ∙ passed _ _ _ (h .scratch) ∙ if-yes No _ (parts k cpi batch (h .yes) .asked))
 
-pub short-few : (cpi : ℕ) (batch : List ℕ) → shortYes cpi batch ≡ true → cpi ≤ 256
-short-few cpi batch e = allowed-range cpi (batch-yes cpi (length batch) (parts cpi batch e .asked) .0) .1
+  -- the count fits in a word
+  pub rows-room : cpi ≤ 256 → rowsEach k * cpi < 2 ^ 64
+  rows-room l = go k
+    where
+      go : (j : Known) → rowsEach j * cpi < 2 ^ 64
+      go House = omega arith
+      go Strict = omega arith
+
+  pub short-few : (batch : List ℕ) → shortYes k cpi batch ≡ true → cpi ≤ 256
+  short-few batch e = allowed-range cpi (batch-yes cpi (length batch) (parts k cpi batch e .asked) .0) .1
 
 -- ---- by what the packing answers
 
-module _ (cpi : ℕ) (batch out : List ℕ) (h : NamedIn cpi batch out) where
+module _ (k : Known) (cpi : ℕ) (batch out : List ℕ) (h : NamedIn cpi batch out) where
   abbrev cycles : Bool
-  cycles = allJudged (packedNamed cpi batch out) (elementAt batch (2048 * cpi + 1)) cpi 0
+  cycles = allJudged k (packedNamed cpi batch out) (elementAt batch (2048 * cpi + 1)) cpi 0
 
   -- what the packing answered, and left in the slice
   abbrev Packs : Packing → List ℕ → Type 0
   Packs a after = _≡_ {A = NamedCalled} (record { answer = a; out = after }) (namedCalled cpi batch out)
 
   pub of-bits : {a : Packing} {after : List ℕ} {x : Gf128} {r : Bool}
-      → Packs a after → a ≡ Bits → x ≡ elementAt batch (2048 * cpi + 1) → r ≡ allJudged after x cpi 0 → r ≡ shortBits cpi batch out
+      → Packs a after → a ≡ Bits → x ≡ elementAt batch (2048 * cpi + 1) → r ≡ allJudged k after x cpi 0 → r ≡ shortBits k cpi batch out
   unfolding shortBits
   of-bits {after = after} {x = x} e b f j =
       let p = called-is cpi batch out h e in
-      j ∙ ap₂ (λ (u : List ℕ) (y : Gf128). allJudged u y cpi 0) (p .1) f
+      j ∙ ap₂ (λ (u : List ℕ) (y : Gf128). allJudged k u y cpi 0) (p .1) f
       ∙ ap (λ (t : Bool). t && cycles) (sym (bits-are (namedBits cpi batch) (sym (p .0) ∙ b)))
     where
       bits-are : (t : Bool) → cond t Bits NotBits ≡ Bits → t ≡ true
@@ -166,7 +176,7 @@ module _ (cpi : ℕ) (batch out : List ℕ) (h : NamedIn cpi batch out) where
   packed-room e = ap length (called-is cpi batch out h e .1) ∙ length-from (packedAt cpi batch out) (length out) 0 ∙ h .room
 
   -- anything else is a no
-  pub not-of-bits : {a : Packing} {after : List ℕ} → Packs a after → (a ≡ Bits → ⊥) → false ≡ shortBits cpi batch out
+  pub not-of-bits : {a : Packing} {after : List ℕ} → Packs a after → (a ≡ Bits → ⊥) → false ≡ shortBits k cpi batch out
   unfolding shortBits
   not-of-bits e f =
       ap (λ (t : Bool). t && cycles) (sym (no-true (namedBits cpi batch) (λ q. f (called-is cpi batch out h e .0 ∙ ap answerOf q))))
@@ -179,17 +189,17 @@ refused-bits e f = let z : _≡_ {A = ℕ} 0 1 = cc in omega arith
 
 -- ---- the tests in their order
 
-module _ (cpi : ℕ) (batch : List ℕ) where
-  pub not-asked : {r : Refusal} → batchAsked cpi (length batch) ≡ No r → false ≡ shortYes cpi batch
+module _ (k : Known) (cpi : ℕ) (batch : List ℕ) where
+  pub not-asked : {r : Refusal} → batchAsked cpi (length batch) ≡ No r → false ≡ shortYes k cpi batch
   unfolding shortYes
   not-asked e = rw e
 
-  pub no-one : batchAsked cpi (length batch) ≡ Yes → same (elementAt batch (2048 * cpi)) one ≡ false → false ≡ shortYes cpi batch
+  pub no-one : batchAsked cpi (length batch) ≡ Yes → same (elementAt batch (2048 * cpi)) one ≡ false → false ≡ shortYes k cpi batch
   unfolding shortYes
   no-one a e = rw (a, e)
 
   pub left-bits : batchAsked cpi (length batch) ≡ Yes → same (elementAt batch (2048 * cpi)) one ≡ true
-      → shortBits cpi batch (replicate (32 * cpi) 0) ≡ shortYes cpi batch
+      → shortBits k cpi batch (replicate (32 * cpi) 0) ≡ shortYes k cpi batch
   unfolding shortYes
   left-bits a e = rw (a, e)
 

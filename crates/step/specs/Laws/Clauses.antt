@@ -1,5 +1,5 @@
--- The clauses of demand 3 at work, of every size and in every cycle: halt, the count, the other fillings, and that it does not matter
--- what stood in the derived columns. (Branches has taken.)
+-- The clauses of demand 3 at work, over the house listing and the strict one, of every size and in every cycle: halt, the count, the
+-- other fillings, and that it does not matter what stood in the derived columns. (Branches has taken, StrictFlags what is strict.)
 -- Assumes nothing.
 use mathlib.Core.Path.{_≡_, refl, sym, ap, ap₂, subst, _∙_}
 use mathlib.Core.Logic.{_↔_}
@@ -21,10 +21,12 @@ use Rattle.field.specs.Gf.Laws.{words-zero}
 use Rattle.layout.specs.Columns.{ONE-COL, SHIFT-OUT, HALT, IS-SHIFT, FETCH-OP}
 use Rattle.layout.specs.Batch.{allowed, scratchFits}
 use Rattle.layout.specs.Laws.Sizes.{allowed-range}
-use Rattle.circuit.specs.Circuit.{circuitWords}
+use Rattle.strict.specs.declared.Known.{Known}
+use Rattle.strict.specs.Known.{listingOf}
 use Rattle.verdict.specs.Row.{elementAt, cycleOf, bitsOf}
 use Rattle.verdict.specs.Check.{checked}
 use Rattle.step.specs.Step.{Step, opcode}
+use Rattle.step.specs.Strict.{ConditionsOf}
 use Rattle.step.specs.Derived.{derived, derivedIn}
 use Rattle.step.specs.Filling.{SameElsewhere, filling, countFillings, fillerBits, filled}
 use Rattle.step.specs.Demand3.{accepts, fails, Demand3}
@@ -33,7 +35,8 @@ use Rattle.step.specs.Laws.Derived.{derived-below}
 use Rattle.step.specs.Laws.Given.{same-word}
 use Rattle.step.specs.Laws.FillingElements.{filling-derived}
 use Rattle.step.specs.Laws.Batch.{filled-zero}
-use Rattle.step.specs.Laws.Proved.{demand3}
+use Rattle.step.specs.Laws.Proved.{demand3-known}
+use Rattle.step.specs.Laws.Strict.{the-ten, no-load}
 use Rattle.step.specs.Laws.Sheet.{no-shift-write-load}
 use Rattle.step.specs.Laws.Chosen.{batchOf, withOne, cycle-is, all-bits-of, premises-of, filled-given}
 
@@ -83,10 +86,10 @@ idle cpi = batchOf cpi (λ d c. false)
 
 -- ---- the statement
 
-module _ (cpi : ℕ) (scratch : List ℕ) where
+module _ (k : Known) (cpi : ℕ) (scratch : List ℕ) where
   -- is a batch accepted?
   abbrev pub isAccepted : List ℕ → Bool
-  isAccepted u = accepts (checked cpi circuitWords u scratch .answer)
+  isAccepted u = accepts (checked cpi (listingOf k) u scratch .answer)
 
   -- the filling with each bit that the filler does not write
   abbrev pub opposite : List ℕ → List ℕ
@@ -98,48 +101,55 @@ module _ (cpi : ℕ) (scratch : List ℕ) where
     pub halts-not : (d : ℕ) → d < cpi → cycleOf cpi (filled cpi (idle cpi)) d HALT ≡ zero
     -- one filling is accepted where the conditions are met, none where one cycle does not meet them
     pub one-filling : countFillings cpi isAccepted (systems cpi) ≡ 1
-    pub no-filling : (k : ℕ) → k < cpi → countFillings cpi isAccepted (batchOf cpi (shiftsIn k)) ≡ 0
+    pub no-filling : (e : ℕ) → e < cpi → countFillings cpi isAccepted (batchOf cpi (shiftsIn e)) ≡ 0
     -- another filling fails, conditions met or not
-    pub others-fail : fails (checked cpi circuitWords (opposite (systems cpi)) scratch .answer) ≡ true
-    pub others-fail-too : (k : ℕ) → k < cpi → fails (checked cpi circuitWords (opposite (batchOf cpi (shiftsIn k))) scratch .answer) ≡ true
+    pub others-fail : fails (checked cpi (listingOf k) (opposite (systems cpi)) scratch .answer) ≡ true
+    pub others-fail-too : (e : ℕ) → e < cpi
+        → fails (checked cpi (listingOf k) (opposite (batchOf cpi (shiftsIn e))) scratch .answer) ≡ true
     -- whatever two words stand in a derived column of a cycle, the filling is the same
     pub whatever-stood : (c d l h : ℕ) → derived c ≡ true → d < cpi → filled cpi (replaced (systems cpi) (c * cpi + d) l h)
         ≡ filled cpi (systems cpi)
 
 -- ---- its proof
 
-module _ (cpi : ℕ) (some : 0 < cpi) where
-  -- cycles alike that meet the ten conditions where nothing is written, shifted or loaded
-  module _ (b : ℕ → Bool) (meets : Step (withOne b) (ofWords 0 0)) where
+module _ (k : Known) (cpi : ℕ) (some : 0 < cpi) where
+  -- cycles alike that meet the conditions where nothing is written, shifted or loaded
+  module _ (b : ℕ → Bool) (meets : ConditionsOf k (withOne b) (ofWords 0 0)) where
     output-is : (d : ℕ) → d < cpi → cycleOf cpi (batchOf cpi (λ d. b)) d (ONE-COL + 1) ≡ ofWords 0 0
     output-is d l = cycle-is cpi some (λ d. b) d l (ONE-COL + 1) ∙ sym words-zero
 
-    pub alike-meet : (d : ℕ) → d < cpi → Step (bitsOf cpi (batchOf cpi (λ d. b)) d) (cycleOf cpi (batchOf cpi (λ d. b)) d (ONE-COL + 1))
+    pub alike-meet : (d : ℕ) → d < cpi
+        → ConditionsOf k (bitsOf cpi (batchOf cpi (λ d. b)) d) (cycleOf cpi (batchOf cpi (λ d. b)) d (ONE-COL + 1))
     alike-meet d l =
-        subst (Step (bitsOf cpi (batchOf cpi (λ d. b)) d)) (sym (output-is d l))
-        (subst (λ (z : ℕ → Bool). Step z (ofWords 0 0)) (sym (all-bits-of cpi some (λ d. b) d l)) meets)
+        subst (ConditionsOf k (bitsOf cpi (batchOf cpi (λ d. b)) d)) (sym (output-is d l))
+        (subst (λ (z : ℕ → Bool). ConditionsOf k z (ofWords 0 0)) (sym (all-bits-of cpi some (λ d. b) d l)) meets)
 
-  pub idle-meets : (d : ℕ) → d < cpi → Step (bitsOf cpi (idle cpi) d) (cycleOf cpi (idle cpi) d (ONE-COL + 1))
+  pub idle-meets : (d : ℕ) → d < cpi → ConditionsOf k (bitsOf cpi (idle cpi) d) (cycleOf cpi (idle cpi) d (ONE-COL + 1))
   unfolding val
-  idle-meets = alike-meet (λ c. false) (no-shift-write-load _ 0 refl refl refl refl refl refl refl refl refl refl (λ _. refl))
+  idle-meets =
+      alike-meet (λ c. false)
+      (no-load k _ _ (no-shift-write-load _ 0 refl refl refl refl refl refl refl refl refl refl (λ _. refl)) refl refl)
 
-  systems-meet : (d : ℕ) → d < cpi → Step (bitsOf cpi (systems cpi) d) (cycleOf cpi (systems cpi) d (ONE-COL + 1))
+  systems-meet : (d : ℕ) → d < cpi → ConditionsOf k (bitsOf cpi (systems cpi) d) (cycleOf cpi (systems cpi) d (ONE-COL + 1))
   unfolding has number val
-  systems-meet = alike-meet systemBits (no-shift-write-load _ 0 refl refl refl refl refl refl refl refl refl refl (λ _. refl))
+  systems-meet =
+      alike-meet systemBits
+      (no-load k _ _ (no-shift-write-load _ 0 refl refl refl refl refl refl refl refl refl refl (λ _. refl)) refl refl)
 
-  bits-in : (k : ℕ) → k < cpi → bitsOf cpi (batchOf cpi (shiftsIn k)) k ≡ withOne (has (SHIFT-OUT ∷ IS-SHIFT ∷ []))
-  bits-in k l =
-      all-bits-of cpi some (shiftsIn k) k l ∙ ap (λ (t : Bool). withOne (λ c. t && has (SHIFT-OUT ∷ IS-SHIFT ∷ []) c)) (eq-eqb k k refl)
+  bits-in : (e : ℕ) → e < cpi → bitsOf cpi (batchOf cpi (shiftsIn e)) e ≡ withOne (has (SHIFT-OUT ∷ IS-SHIFT ∷ []))
+  bits-in e l =
+      all-bits-of cpi some (shiftsIn e) e l ∙ ap (λ (t : Bool). withOne (λ c. t && has (SHIFT-OUT ∷ IS-SHIFT ∷ []) c)) (eq-eqb e e refl)
 
-  pub shift-meets-not : (k : ℕ) → k < cpi
-      → ((d : ℕ) → d < cpi → Step (bitsOf cpi (batchOf cpi (shiftsIn k)) d) (cycleOf cpi (batchOf cpi (shiftsIn k)) d (ONE-COL + 1))) → ⊥
+  pub shift-meets-not : (e : ℕ) → e < cpi
+      → ((d : ℕ) → d < cpi → ConditionsOf k (bitsOf cpi (batchOf cpi (shiftsIn e)) d) (cycleOf cpi (batchOf cpi (shiftsIn e)) d (ONE-COL + 1)))
+      → ⊥
   unfolding has val
-  shift-meets-not k l h =
-      let z : _≡_ {A = ℕ} 0 1 = subst (λ (b : ℕ → Bool). Step b (cycleOf cpi (batchOf cpi (shiftsIn k)) k (ONE-COL + 1))) (bits-in k l)
-      (h k l) .shift refl in
+  shift-meets-not e l h =
+      let z : _≡_ {A = ℕ} 0 1 = subst (λ (b : ℕ → Bool). Step b (cycleOf cpi (batchOf cpi (shiftsIn e)) e (ONE-COL + 1))) (bits-in e l)
+      (the-ten k (h e l)) .shift refl in
       omega arith
 
-module _ (cpi : ℕ) (size : allowed cpi ≡ true) (scratch : List ℕ) (room : scratchFits (length scratch) ≡ true) where
+module _ (k : Known) (cpi : ℕ) (size : allowed cpi ≡ true) (scratch : List ℕ) (room : scratchFits (length scratch) ≡ true) where
   some : 0 < cpi
   some = allowed-range cpi size .0
 
@@ -148,11 +158,11 @@ module _ (cpi : ℕ) (size : allowed cpi ≡ true) (scratch : List ℕ) (room : 
     abbrev w : List ℕ
     w = batchOf cpi b
 
-    proved : Demand3 circuitWords Step cpi w scratch
-    proved = demand3 cpi size w scratch room (premises-of cpi some b)
+    proved : Demand3 (listingOf k) (ConditionsOf k) cpi w scratch
+    proved = demand3-known k cpi size w scratch room (premises-of cpi some b)
 
     -- it has another bit in HALT of cycle 0, and in every derived column
-    not-filled : opposite cpi scratch w ≡ filled cpi w → ⊥
+    not-filled : opposite k cpi scratch w ≡ filled cpi w → ⊥
     unfolding derived filled
     not-filled e =
         let words = premises-of cpi some b .words in
@@ -160,15 +170,15 @@ module _ (cpi : ℕ) (size : allowed cpi ≡ true) (scratch : List ℕ) (room : 
         let there = filling-derived cpi (fillerBits cpi w) w HALT 0 some refl words in
         not-same (fillerBits cpi w (HALT * cpi + 0)) (sym here ∙ ap (λ (u : List ℕ). cycleOf cpi u 0 HALT) e ∙ there)
       where
-        not-same : (k : Bool) → ofBit (not k) ≡ ofBit k → ⊥
+        not-same : (t : Bool) → ofBit (not t) ≡ ofBit t → ⊥
         not-same true q = false≢true (sym (low-bit false) ∙ ap (λ (x : Gf128). eqb (low x) 1) q ∙ low-bit true)
         not-same false q = true≢false (sym (low-bit true) ∙ ap (λ (x : Gf128). eqb (low x) 1) q ∙ low-bit false)
 
-    opposite-fails : fails (checked cpi circuitWords (opposite cpi scratch w) scratch .answer) ≡ true
+    opposite-fails : fails (checked cpi (listingOf k) (opposite k cpi scratch w) scratch .answer) ≡ true
     opposite-fails = proved .others (λ x. not (fillerBits cpi w x)) not-filled
 
     -- halt by the opcode, where the filler's batch is accepted
-    halt-bit : ((d : ℕ) → d < cpi → Step (bitsOf cpi w d) (cycleOf cpi w d (ONE-COL + 1))) → (d : ℕ) → d < cpi
+    halt-bit : ((d : ℕ) → d < cpi → ConditionsOf k (bitsOf cpi w d) (cycleOf cpi w d (ONE-COL + 1))) → (d : ℕ) → d < cpi
         → (cycleOf cpi (filled cpi w) d HALT ≡ one) ↔ (opcode (withOne (b d)) ≡ 0x73)
     unfolding derived
     halt-bit met d l =
@@ -180,20 +190,20 @@ module _ (cpi : ℕ) (size : allowed cpi ≡ true) (scratch : List ℕ) (room : 
   unfolding val
   idle-halts-not d l =
       filled-zero cpi some (idle cpi) (premises-of cpi some (λ d c. false)) d l HALT (omega arith) (λ e.
-      let z : _≡_ {A = ℕ} 0 0x73 = halt-bit (λ d c. false) (idle-meets cpi some) d l .0 e in omega arith)
+      let z : _≡_ {A = ℕ} 0 0x73 = halt-bit (λ d c. false) (idle-meets k cpi some) d l .0 e in omega arith)
 
-  pub at-work : AtWork cpi scratch
+  pub at-work : AtWork k cpi scratch
   unfolding has number val
   at-work =
       record {
-        halts = λ d l. halt-bit (λ d. systemBits) (systems-meet cpi some) d l .1 refl;
+        halts = λ d l. halt-bit (λ d. systemBits) (systems-meet k cpi some) d l .1 refl;
         halts-not = idle-halts-not;
-        one-filling = proved (λ d. systemBits) .counted ∙ ap (λ (k : Bool). digit k)
-            (proved (λ d. systemBits) .accepted .1 (systems-meet cpi some));
-        no-filling = λ k l. proved (shiftsIn k) .counted
-            ∙ ap (λ (t : Bool). digit t) (no-true _ (λ e. shift-meets-not cpi some k l (proved (shiftsIn k) .accepted .0 e)));
+        one-filling = proved (λ d. systemBits) .counted ∙ ap (λ (t : Bool). digit t)
+            (proved (λ d. systemBits) .accepted .1 (systems-meet k cpi some));
+        no-filling = λ e l. proved (shiftsIn e) .counted
+            ∙ ap (λ (t : Bool). digit t) (no-true _ (λ a. shift-meets-not k cpi some e l (proved (shiftsIn e) .accepted .0 a)));
         others-fail = opposite-fails (λ d. systemBits);
-        others-fail-too = λ k l. opposite-fails (shiftsIn k);
+        others-fail-too = λ e l. opposite-fails (shiftsIn e);
         whatever-stood = λ c d x h e l.
             proved (λ d. systemBits) .whatever (replaced (systems cpi) (c * cpi + d) x h)
             (replaced-same cpi (systems cpi) (c * cpi + d) x h (digits-lt (derived-below c e) l) (ap derived (digits-div c l) ∙ e));

@@ -25,6 +25,7 @@ use Rattle.circuit.specs.Circuit.{adderRow, copyRows, addressRow, agreeRow, sum
 use Rattle.circuit.specs.Parse.{rowsOf}
 use Rattle.circuit.specs.Batched.{batchRow}
 use Rattle.circuit.specs.Laws.House.{words-read, counts}
+use Rattle.strict.specs.declared.Known.the-variants.{House}
 use Rattle.verdict.specs.declared.Verdict.{Verdict}
 use Rattle.verdict.specs.declared.Verdict.the-variants.{Accepted, Failed}
 use Rattle.verdict.specs.declared.CheckAnswer.the-variants.{Judged}
@@ -51,7 +52,7 @@ use Rattle.step.specs.Laws.Cycle.{OfBits, all-bin, bin-over-bits, addres
 use Rattle.step.specs.Laws.FillingElements.{filling-length}
 use Rattle.step.specs.Laws.FillAnswers.{fills}
 use Rattle.step.specs.Laws.Batch.{same-given, same-public, of-bits, filled-meets, filled-determined, rows-or-conditions}
-use Rattle.step.specs.Laws.Listings.{cycle-rows, house}
+use Rattle.step.specs.Laws.Listings.{cycle-rows, listed}
 use Rattle.step.specs.Laws.Ones.{Holding, Fits, bits-are, output-is, premises}
 use Rattle.step.specs.Laws.CycleOrder.{at, rowsIn, beforeAddress, bins, beforeSum, beforeOutput, address-at, sum-at, output-at, bins-count, rows-count, rows-met}
 
@@ -123,7 +124,7 @@ module _ (cs : List ℕ) (n : ℕ) (row : List ℕ) (h : Holding cs n row) (t : 
       conditions = subst (Step (bitsOf 1 row 0)) (sym (output-is cs n row h t)) over-bits
 
       every-row : Every 0
-      every-row = cycle-rows circuitWords [] house z .1 (rows-or-conditions 1 (omega arith) row p 0 (omega arith) .1 conditions, tt)
+      every-row = cycle-rows circuitWords [] (listed House) z .1 (rows-or-conditions 1 (omega arith) row p 0 (omega arith) .1 conditions, tt)
 
   -- the first constraint that does not hold
   first-fails : (xs : List Constraint) (k : Constraint) (ys : List Constraint) → constraints 1 circuitRows ≡ xs ++ (k ∷ ys)

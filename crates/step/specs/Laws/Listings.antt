@@ -1,10 +1,10 @@
--- Listings that the theorem speaks of: the house rows with further bin rows that read given columns and the one column alone (document 02,
--- request 6, has eight). The house listing is the case of none. What an accepted batch says of their rows.
+-- Listings that the theorem speaks of: the house rows with further bin rows that read given columns and the one column alone. The house
+-- listing is the case of none, and the strict one has eight. What an accepted batch says of their rows.
 -- Assumes nothing.
 use mathlib.Core.Path.{_≡_, refl, sym, ap, subst, _∙_}
 use mathlib.Core.Logic.{_↔_}
 use mathlib.Core.Bool.{Bool, true, _&&_, false≢true}
-use mathlib.Core.List.{List, [], _∷_, _++_, append-nil}
+use mathlib.Core.List.{List, [], _∷_, _++_}
 use Prim.Native.Nat.{ℕ}
 use lib.ListN.{length}
 use Rattle.base.specs.Lists.{joined, All}
@@ -15,17 +15,24 @@ use Rattle.layout.specs.declared.Asked.the-variants.{Yes}
 use Rattle.layout.specs.Batch.{allowed, batchWords, scratchFits}
 use Rattle.circuit.specs.declared.Relation.the-variants.{Bin, Fld}
 use Rattle.circuit.specs.Rows.{Sides, Row, numbered}
-use Rattle.circuit.specs.Circuit.{binFamilies, fldFamilies, circuitRows, circuitWords}
+use Rattle.circuit.specs.Circuit.{binFamilies, fldFamilies}
 use Rattle.circuit.specs.Parse.{rowsOf}
 use Rattle.circuit.specs.Valid.{validated}
-use Rattle.circuit.specs.Laws.House.{words-read, in-order}
 use Rattle.circuit.specs.Laws.Families.{all-numbered}
+use Rattle.strict.specs.declared.Known.{Known}
+use Rattle.strict.specs.declared.Known.the-variants.{House, Strict}
+use Rattle.strict.specs.Rows.{flagRows, rowsWith}
+use Rattle.strict.specs.Known.{listingOf, furtherRows}
+use Rattle.strict.specs.Laws.Known.{in-order, rows-are}
 use Rattle.verdict.specs.declared.Verdict.{Verdict}
 use Rattle.verdict.specs.declared.Verdict.the-variants.{Accepted, Failed}
 use Rattle.verdict.specs.declared.CheckAnswer.the-variants.{Judged}
 use Rattle.verdict.specs.Row.{holds}
+use Rattle.verdict.specs.OverBits.{plain}
+use Rattle.verdict.specs.Named.{named}
 use Rattle.verdict.specs.Check.{judged, checked}
 use Rattle.verdict.specs.Laws.Verdicts.{EveryRowHolds}
+use Rattle.step.specs.Derived.{derived}
 use Rattle.step.specs.Solve.{Holds}
 use Rattle.step.specs.Demand3.{acceptedVerdict, accepts}
 use Rattle.step.specs.Laws.Solvable.{readsRow, same-lacks}
@@ -67,7 +74,7 @@ same-further y z h (s ∷ ss) e a =
 -- a listing of the house rows and further bin rows
 pub record Listed (listing : List ℕ) (further : List Sides) : Type 0 where
   pub in-order : validated listing ≡ Yes
-  pub rows-are : rowsOf listing ≡ numbered Bin 0 (joined binFamilies ++ further) ++ numbered Fld 0 (joined fldFamilies)
+  pub rows-are : rowsOf listing ≡ rowsWith further
   pub over-bits : allOverBits further ≡ true
   pub read-given : allReadGiven further ≡ true
 
@@ -98,14 +105,16 @@ module _ (listing : List ℕ) (further : List Sides) (l : Listed listing further
       flds : List Row
       flds = numbered Fld 0 (joined fldFamilies)
 
--- the house listing: no further rows, and the ten step conditions
-pub house : Listed circuitWords []
-unfolding circuitRows
-house =
-    record {
-      in-order = in-order;
-      rows-are = words-read ∙ ap (λ (ss : List Sides). numbered Bin 0 ss ++ numbered Fld 0 (joined fldFamilies))
-          (sym (append-nil (joined binFamilies)));
-      over-bits = refl;
-      read-given = refl;
-    }
+-- a listing that is known by name is one, by computed tests on the rows that it adds
+known-over-bits : (k : Known) → allOverBits (furtherRows k) ≡ true
+unfolding flagRows plain named
+known-over-bits House = refl
+known-over-bits Strict = refl
+
+known-read-given : (k : Known) → allReadGiven (furtherRows k) ≡ true
+unfolding flagRows derived
+known-read-given House = refl
+known-read-given Strict = refl
+
+pub listed : (k : Known) → Listed (listingOf k) (furtherRows k)
+listed k = record { in-order = in-order k; rows-are = rows-are k; over-bits = known-over-bits k; read-given = known-read-given k }

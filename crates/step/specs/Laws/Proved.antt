@@ -1,9 +1,9 @@
--- Demand 3 proved: of any listing of the house rows and further bin rows, and so of the house listing.
+-- Demand 3 proved: of any listing of the house rows and further bin rows, and so of the house listing and of the strict one.
 -- Assumes nothing.
 use mathlib.Core.Path.{_≡_, refl, sym, ap, _∙_}
 use mathlib.Core.Logic.{_↔_}
 use mathlib.Core.Bool.{Bool, true, false, not, false≢true}
-use mathlib.Core.List.{List, []}
+use mathlib.Core.List.{List}
 use Prim.Native.Nat.{ℕ, _+_, _*_, _≤_, _<_}
 use native.Mathlib.Omega.{arith}
 use lib.Dec.{eqb}
@@ -20,12 +20,16 @@ use Rattle.layout.specs.Batch.{allowed, scratchFits}
 use Rattle.layout.specs.Laws.Sizes.{allowed-range}
 use Rattle.circuit.specs.Rows.{Sides}
 use Rattle.circuit.specs.Circuit.{circuitWords}
-use Rattle.circuit.specs.Laws.House.{in-order}
+use Rattle.strict.specs.declared.Known.{Known}
+use Rattle.strict.specs.declared.Known.the-variants.{House, Strict}
+use Rattle.strict.specs.Rows.{strictWords}
+use Rattle.strict.specs.Known.{listingOf, furtherRows}
 use Rattle.verdict.specs.declared.CheckAnswer.{CheckAnswer}
 use Rattle.verdict.specs.declared.CheckAnswer.the-variants.{Judged}
 use Rattle.verdict.specs.Row.{cycleOf, holds, bitsOf}
 use Rattle.verdict.specs.Check.{judged, checked}
 use Rattle.step.specs.Step.{Step, opcode, funct3}
+use Rattle.step.specs.Strict.{StrictStep, ConditionsOf}
 use Rattle.step.specs.Derived.{derivedIn}
 use Rattle.step.specs.Solve.{Holds}
 use Rattle.step.specs.Determining.{determining}
@@ -35,13 +39,14 @@ use Rattle.step.specs.Laws.Taken.{halt-is, taken-is, taken-exactly}
 use Rattle.step.specs.Laws.Cycle.{all-bin}
 use Rattle.step.specs.Laws.Count.{count-one, count-none}
 use Rattle.step.specs.Laws.FillingElements.{filling-length}
-use Rattle.step.specs.Laws.Batch.{RowsHold, same-given, of-bits, same-bits-as-filler, is-filled, split, filled-bit, filled-determined, rows-or-conditions, same-filled}
-use Rattle.step.specs.Laws.Listings.{judged-accepts, checked-answer, same-further, Listed, cycle-rows, house}
+use Rattle.step.specs.Laws.Batch.{RowsHold, one-bit, same-given, of-bits, same-bits-as-filler, is-filled, split, filled-bit, filled-determined, rows-or-conditions, same-filled}
+use Rattle.step.specs.Laws.Listings.{judged-accepts, checked-answer, same-further, Listed, cycle-rows, listed}
+use Rattle.step.specs.Laws.Strict.{meaning as flags-mean}
 use Rattle.field.specs.Gf as gf
 
 module _ (listing : List ℕ) (further : List Sides) (l : Listed listing further)
     (Conditions : (ℕ → Bool) → Gf128 → Type 0)
-    (meaning : (b : ℕ → Bool) (output : Gf128) → Conditions b output ↔ (Step b output × All (Holds b) further))
+    (meaning : (b : ℕ → Bool) (output : Gf128) → b ONE-COL ≡ true → Conditions b output ↔ (Step b output × All (Holds b) further))
     (cpi : ℕ) (size : allowed cpi ≡ true) (w scratch : List ℕ) (room : scratchFits (length scratch) ≡ true) (p : Premises cpi w) where
   some : 0 < cpi
   some = allowed-range cpi size .0
@@ -91,9 +96,9 @@ module _ (listing : List ℕ) (further : List Sides) (l : Listed listing further
   accepted-is =
       let v = fillerBits cpi w in (
         λ h d k. let r = accepts-rows v .0 h d k in
-            meaning (bitsOf cpi w d) _ .1 (rows-or-conditions cpi some w p d k .0 (r .0), further-rows v d k .0 (r .1)),
+            meaning (bitsOf cpi w d) _ (one-bit cpi some w p d) .1 (rows-or-conditions cpi some w p d k .0 (r .0), further-rows v d k .0 (r .1)),
         λ h. accepts-rows v .1 (λ d k.
-            let m = meaning (bitsOf cpi w d) _ .0 (h d k) in (rows-or-conditions cpi some w p d k .1 (m .0), further-rows v d k .1 (m .1))),
+            let m = meaning (bitsOf cpi w d) _ (one-bit cpi some w p d) .0 (h d k) in (rows-or-conditions cpi some w p d k .1 (m .0), further-rows v d k .1 (m .1))),
       )
 
   counts : countFillings cpi (λ u. accepts (verdict u)) w ≡ digit (accepts (verdict W))
@@ -148,7 +153,17 @@ module _ (listing : List ℕ) (further : List Sides) (l : Listed listing further
         taken = takes;
       }
 
--- the house listing has no further rows, and comes to the ten step conditions
+-- a listing that is known by name comes to its conditions
+pub demand3-known : (k : Known) (cpi : ℕ) → allowed cpi ≡ true → (batch scratch : List ℕ) → scratchFits (length scratch) ≡ true
+    → Premises cpi batch → Demand3 (listingOf k) (ConditionsOf k) cpi batch scratch
+demand3-known k = proved (listingOf k) (furtherRows k) (listed k) (ConditionsOf k) (flags-mean k)
+
+-- the house listing to the ten step conditions
 pub demand3 : (cpi : ℕ) → allowed cpi ≡ true → (batch scratch : List ℕ) → scratchFits (length scratch) ≡ true → Premises cpi batch
     → Demand3 circuitWords Step cpi batch scratch
-demand3 = proved circuitWords [] house Step (λ b output. (λ s. (s, tt), λ m. m .0))
+demand3 = demand3-known House
+
+-- and the strict listing to the strict conditions
+pub demand3-strict : (cpi : ℕ) → allowed cpi ≡ true → (batch scratch : List ℕ) → scratchFits (length scratch) ≡ true → Premises cpi batch
+    → Demand3 strictWords StrictStep cpi batch scratch
+demand3-strict = demand3-known Strict

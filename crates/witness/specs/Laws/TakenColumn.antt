@@ -17,8 +17,12 @@ use Rattle.layout.specs.Columns.{RS1, RS2, TAKEN}
 use Rattle.layout.specs.Batch.{allowed, scratchFits}
 use Rattle.layout.specs.Laws.Sizes.{allowed-range}
 use Rattle.circuit.specs.Circuit.{circuitWords}
+use Rattle.strict.specs.declared.Known.{Known}
+use Rattle.strict.specs.declared.Known.the-variants.{House}
+use Rattle.strict.specs.Known.{listingOf}
 use Rattle.verdict.specs.Row.{cycleOf, bitsOf}
 use Rattle.step.specs.Step.{Step, opcode, funct3}
+use Rattle.step.specs.Strict.{ConditionsOf}
 use Rattle.step.specs.Branch.{branchHolds}
 use Rattle.step.specs.Filling.{filled}
 use Rattle.step.specs.Demand3.{Premises, Compares, TakesBranch, FillerAccepted, Demand3}
@@ -26,7 +30,7 @@ use Rattle.step.specs.Laws.Step.{funct3-lt}
 use Rattle.step.specs.Laws.Determined.{Determined}
 use Rattle.step.specs.Laws.Taken.{cycleTaken, taken-exactly, no-branch-untaken, two-untaken, three-untaken}
 use Rattle.step.specs.Laws.Batch.{filled-bit, filled-zero, filled-determined}
-use Rattle.step.specs.Laws.Proved.{demand3}
+use Rattle.step.specs.Laws.Proved.{demand3-known}
 use Rattle.step.specs.Laws.Branches.{Instruction}
 use Rattle.witness.specs.declared.branch.BranchReading.{BranchReading}
 use Rattle.witness.specs.declared.branch.BranchReading.the-variants.{NoBranch, Taken, NotTaken, Reserved}
@@ -143,8 +147,13 @@ module _ (cpi : ℕ) (size : allowed cpi ≡ true) (batch : List ℕ) (p : Premi
       → Demand3 listing Conditions cpi batch scratch → TakenColumn listing Conditions cpi batch scratch
   taken-as-read listing Conditions scratch proved accepted d h c = as-read d h (proved .taken accepted d h c)
 
--- ---- of the house listing
+-- ---- of a listing that is known by name, and so of the house listing
+
+pub taken-known : (k : Known) (cpi : ℕ) → allowed cpi ≡ true → (batch scratch : List ℕ) → scratchFits (length scratch) ≡ true
+    → Premises cpi batch → TakenColumn (listingOf k) (ConditionsOf k) cpi batch scratch
+taken-known k cpi size batch scratch room p =
+    taken-as-read cpi size batch p (listingOf k) (ConditionsOf k) scratch (demand3-known k cpi size batch scratch room p)
 
 pub taken-column : (cpi : ℕ) → allowed cpi ≡ true → (batch scratch : List ℕ) → scratchFits (length scratch) ≡ true → Premises cpi batch
     → TakenColumn circuitWords Step cpi batch scratch
-taken-column cpi size batch scratch room p = taken-as-read cpi size batch p circuitWords Step scratch (demand3 cpi size batch scratch room p)
+taken-column = taken-known House

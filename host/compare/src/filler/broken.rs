@@ -14,6 +14,7 @@ use crate::report::{test, Tally, Test};
 use crate::verdict::answer::Verdict;
 use crate::verdict::boundary;
 use crate::verdict::judge::{Desk, Judge, OF_A_VERDICT};
+use crate::verdict::known::Known;
 
 /// Times that each condition is broken in each of the three cycles, by size.
 const TIMES: [usize; 9] = [32, 16, 8, 8, 4, 4, 2, 1, 1];
@@ -89,7 +90,7 @@ fn breaks(
     let verdict = judge.judge(tally, &mut desk, &mut batch, place);
     boundary::same(tally, &mut batch, verdict, place);
     let mut numbers = Numbers::for_part(79, (cpi << 16 | cycle << 8 | k) as u64);
-    at_once(tally, &mut numbers, &batch, verdict, place);
+    at_once(tally, &mut numbers, Known::House, &batch, verdict, place);
     let fails = || format!("{}, fails in a row of it: {verdict:?}", place());
     tally.same(fails, is_in(verdict, cycle, rows_of(k)), true);
 }

@@ -14,6 +14,7 @@ use crate::report::{test, Tally, Test};
 use crate::verdict::answer::Verdict;
 use crate::verdict::batches::{self, batch_column, Batch, ONE_COLUMN, WITNESS_COLUMNS};
 use crate::verdict::judge::{of_a_house_verdict, Judge};
+use crate::verdict::known::Known;
 use crate::verdict::lent::Lent;
 
 /// Every setting of eight flags, every offset, each condition broken and none.
@@ -191,7 +192,12 @@ pub fn fill(tally: &mut Tally, batch: &mut Batch, place: &dyn Fn() -> String) {
 pub fn accepted(numbers: &mut Numbers, cpi: usize, output: u128) -> Batch {
     let cycle = |_| Wanted::any(numbers, 0, output).make(numbers);
     let cycles: Vec<Cycle> = (0..cpi).map(cycle).collect();
-    let mut batch = batch_of(numbers, &cycles, output);
+    filled(numbers, &cycles, output)
+}
+
+/// The cycles in a batch that is filled.
+pub fn filled(numbers: &mut Numbers, cycles: &[Cycle], output: u128) -> Batch {
+    let mut batch = batch_of(numbers, cycles, output);
     fill(&mut Tally::default(), &mut batch, &String::new);
     batch
 }
@@ -230,7 +236,7 @@ fn fills(
     let verdict = judge.judge_house(tally, &mut batch, place);
     let as_met = || format!("{}, accepted where all conditions are met", place());
     tally.same(as_met, verdict.relation().is_none(), accepted);
-    at_once(tally, numbers, &batch, verdict, place);
+    at_once(tally, numbers, Known::House, &batch, verdict, place);
 
     let bit = |column: usize, d: usize| batch.z[column * cpi + d].0 == 1;
     let halt: Vec<bool> = (0..cpi).map(|d| bit(HALT, d)).collect();
@@ -267,6 +273,7 @@ fn taken_as_read(cycle: &Cycle, taken: bool) -> bool {
 pub fn at_once(
     tally: &mut Tally,
     numbers: &mut Numbers,
+    known: Known,
     batch: &Batch,
     verdict: Verdict,
     place: &dyn Fn() -> String,
@@ -281,8 +288,8 @@ pub fn at_once(
             words.words_mut()[at + 1] = (anything >> 64) as u64;
         }
     }
-    let answer = product::fill_and_check(cpi, words.words_mut());
-    let both = || format!("{}, filled and checked in one call", place());
+    let answer = product::fill_and_check(known, cpi, words.words_mut());
+    let both = || format!("{}, filled and checked in one call, {known:?}", place());
     tally.same(both, answer, verdict.number());
     let left = || format!("{}, and what is left of it", place());
     tally.same(left, words.first_wrong(), None);

@@ -3,7 +3,7 @@
 
 mod broken;
 pub mod conditions;
-mod cycles;
+pub mod cycles;
 pub mod derived;
 pub mod filled;
 mod flips;

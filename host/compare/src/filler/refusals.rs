@@ -10,12 +10,13 @@ use crate::parallel::in_parts;
 use crate::report::{test, Tally, Test};
 use crate::verdict::answer::{refusal, Refusal, BATCH_LENGTH, CYCLE, GIVEN_BIT, ONE, SIZE};
 use crate::verdict::batches::{Batch, COLUMNS, WITNESS_COLUMNS};
+use crate::verdict::known::KNOWN;
 use crate::verdict::lent::Lent;
 
 const GIVEN: usize = WITNESS_COLUMNS - DERIVED;
 
-/// Comparisons of one refusal: the three answers, and the batch as it came.
-const OF_A_REFUSAL: u64 = 4;
+/// Comparisons of one refusal: the four answers, and the batch as it came.
+const OF_A_REFUSAL: u64 = 5;
 
 /// Smallest above 1, high word alone, both words, all ones.
 const ABOVE_ONE: [u128; 6] = [2, 3, 1 << 64, (1 << 64) + 1, 1 << 127, u128::MAX];
@@ -41,7 +42,7 @@ pub fn tests() -> Vec<Test> {
         ),
         test(
             "filling and conditions, derived columns above 1 are no refusal",
-            (DERIVED * ABOVE_ONE.len()) as u64 * 4,
+            (DERIVED * ABOVE_ONE.len()) as u64 * 5,
             each_derived_column,
         ),
         test(
@@ -81,8 +82,11 @@ fn refused(
     let seen = product::first_unmet(cpi, batch.words(), usize::MAX);
     tally.same(place, seen, right.answer());
     tally.same(place, product::fill(cpi, batch.words_mut()), right.answer());
-    let at_once = product::fill_and_check(cpi, batch.words_mut());
-    tally.same(place, at_once, right.answer());
+    for known in KNOWN {
+        let at_once = product::fill_and_check(known, cpi, batch.words_mut());
+        let place = || format!("{}, filled and checked, {known:?}", place());
+        tally.same(place, at_once, right.answer());
+    }
     let unchanged = || format!("{}, batch unchanged", place());
     tally.same(unchanged, batch.is_right(), true);
 }
@@ -133,12 +137,14 @@ fn each_derived_column(tally: &mut Tally) {
             let place = || format!("column {column} is {value:#x}");
             let seen = product::first_unmet(1, batch.words.words(), 0);
             tally.same(place, seen, cycles[0].first_unmet(output));
-            let mut at_once = Lent::of(batch.words.words());
+            let mut at_once = KNOWN.map(|_| Lent::of(batch.words.words()));
             fill(tally, &mut batch, &place);
-            let right = (product::check_house(1, batch.words.words()), true);
-            let seen = product::fill_and_check(1, at_once.words_mut());
-            let filled = at_once.words() == batch.words.words();
-            tally.same(place, (seen, filled), right);
+            for (known, at_once) in KNOWN.into_iter().zip(&mut at_once) {
+                let right = (product::check_known(known, 1, batch.words.words()), true);
+                let seen = product::fill_and_check(known, 1, at_once.words_mut());
+                let filled = at_once.words() == batch.words.words();
+                tally.same(place, (seen, filled), right);
+            }
         }
     });
 }

@@ -57,11 +57,24 @@ impl Verdict {
         }
     }
 
+    pub fn is_accepted(self) -> bool {
+        self.failed_at().is_none()
+    }
+
     /// The relation that does not hold, which is all that the original says.
     pub fn relation(self) -> Option<Relation> {
+        self.failed_at().map(|first| first.0)
+    }
+
+    /// The relation and the batch row of the first row that does not hold.
+    pub fn failed_at(self) -> Option<(Relation, usize)> {
         match self {
             Verdict::Accepted { .. } => None,
-            Verdict::Failed { relation, .. } => Some(relation),
+            Verdict::Failed {
+                relation,
+                batch_row,
+                ..
+            } => Some((relation, batch_row)),
         }
     }
 }

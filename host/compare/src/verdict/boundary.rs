@@ -1,29 +1,45 @@
-//! The check with the house listing inside it: `check_house` over batches of every size, in both its
-//! forms, and the product's own C boundary over one row of bytes, through the wrapper that a prover uses.
+//! The check without a listing lent: `check_known` over batches of every size, in both its forms, and,
+//! against the house listing, the product's own C boundary over one row of bytes, through the wrapper that
+//! a prover uses.
 
 use cellprism::Answer;
+use product::Known;
 
 use super::answer::Verdict;
 use super::batches::Batch;
-use super::forms::{CHECK_HOUSE, FORMS};
+use super::forms::{CHECK_KNOWN, FORMS};
 use super::lent::Lent;
 use crate::house::Relation;
 use crate::original::Gf128;
 use crate::report::Tally;
 
+/// Comparisons that `same_known` makes of a batch.
+pub const OF_KNOWN: u64 = FORMS as u64;
+
 /// Comparisons that `same` makes of a batch.
 pub fn compared(cpi: usize) -> u64 {
-    FORMS as u64 + u64::from(cpi == 1)
+    OF_KNOWN + u64::from(cpi == 1)
 }
 
-/// All answers on a batch, which stays as it is; the C boundary takes one cycle only.
-pub fn same(tally: &mut Tally, batch: &mut Batch, verdict: Verdict, place: &dyn Fn() -> String) {
-    for (form, check) in CHECK_HOUSE {
-        let answer = check(batch.cpi, batch.words.words());
-        let house = || format!("{}, {form}, the batch unchanged", place());
+/// Both forms' answers on a batch, which stays as it is.
+pub fn same_known(
+    tally: &mut Tally,
+    known: Known,
+    batch: &mut Batch,
+    verdict: Verdict,
+    place: &dyn Fn() -> String,
+) {
+    for (form, check) in CHECK_KNOWN {
+        let answer = check(known, batch.cpi, batch.words.words());
+        let place = || format!("{}, {form}, {known:?}, the batch unchanged", place());
         let right = (verdict.number(), true);
-        tally.same(house, (answer, batch.words.is_right()), right);
+        tally.same(place, (answer, batch.words.is_right()), right);
     }
+}
+
+/// All answers against the house listing; the C boundary takes one cycle only.
+pub fn same(tally: &mut Tally, batch: &mut Batch, verdict: Verdict, place: &dyn Fn() -> String) {
+    same_known(tally, Known::House, batch, verdict, place);
     if batch.cpi == 1 {
         let mut row = Lent::of(&bytes_of(&batch.z));
         let answer = cellprism::check_row(row.words());

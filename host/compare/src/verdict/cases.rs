@@ -5,20 +5,22 @@ use super::batches::{self, batch_column, Batch, ONE_COLUMN};
 use super::damages::circuit_words;
 use super::forms::CHECK_ROW;
 use super::judge::Judge;
+use super::known;
+use super::known::Known::{self, House, Strict};
 use super::lent::Lent;
 use super::listings::{self, Listing, Shape};
 use super::refusals::{asked, FAULTY};
 use super::scratch;
-use crate::filler::filled::{accepted, output};
 use crate::house::Relation::{self, Bin, Fld};
 use crate::house::{Coefficient, Term};
 use crate::numbers::Numbers;
 use crate::report::Tally;
+use crate::strict::cycles::accepted;
 
 /// The words of a listing.
 #[derive(Clone, Copy, Debug)]
 pub enum Words {
-    House,
+    Of(Known),
     /// Rows drawn by chance, which all hold on a dense batch, but the last of one relation.
     Other(Option<Relation>),
     Empty,
@@ -30,6 +32,7 @@ pub enum Words {
 /// The elements of a batch.
 #[derive(Clone, Copy, Debug)]
 pub enum Over {
+    /// Both listings accept it.
     Good,
     /// The circuit does not hold in the last cycle.
     Bad(Relation),
@@ -40,11 +43,15 @@ pub enum Over {
 /// The relation that fails, if one does; or the number of a question behind 5.
 type Meant = Result<Option<Relation>, u64>;
 
-pub const CASES: [(Words, Over, Meant); 11] = [
-    (Words::House, Over::Good, Ok(None)),
-    (Words::House, Over::Bad(Bin), Ok(Some(Bin))),
-    (Words::House, Over::Bad(Fld), Ok(Some(Fld))),
-    (Words::House, Over::Zero, Ok(None)),
+pub const CASES: [(Words, Over, Meant); 15] = [
+    (Words::Of(House), Over::Good, Ok(None)),
+    (Words::Of(House), Over::Bad(Bin), Ok(Some(Bin))),
+    (Words::Of(House), Over::Bad(Fld), Ok(Some(Fld))),
+    (Words::Of(House), Over::Zero, Ok(None)),
+    (Words::Of(Strict), Over::Good, Ok(None)),
+    (Words::Of(Strict), Over::Bad(Bin), Ok(Some(Bin))),
+    (Words::Of(Strict), Over::Bad(Fld), Ok(Some(Fld))),
+    (Words::Of(Strict), Over::Zero, Ok(None)),
     (Words::Other(None), Over::Dense, Ok(None)),
     (Words::Other(Some(Bin)), Over::Dense, Ok(Some(Bin))),
     (Words::Other(Some(Fld)), Over::Dense, Ok(Some(Fld))),
@@ -55,7 +62,7 @@ pub const CASES: [(Words, Over, Meant); 11] = [
 ];
 
 /// Those with a verdict.
-pub const JUDGED: usize = 9;
+pub const JUDGED: usize = 13;
 
 /// Comparisons that `Case::new` makes for all of them: what each is meant to be, and where there is a
 /// verdict the original's.
@@ -122,7 +129,7 @@ impl Words {
     fn make(self, numbers: &mut Numbers) -> Vec<u32> {
         let mut words = circuit_words();
         match self {
-            Words::House => {}
+            Words::Of(known) => words = known::listing(known).words(),
             Words::Other(fails) => words = other(numbers, fails).words(),
             Words::Empty => words.clear(),
             Words::FirstWrong => words = FAULTY.to_vec(),
@@ -154,8 +161,8 @@ fn other(numbers: &mut Numbers, fails: Option<Relation>) -> Listing {
 impl Over {
     fn make(self, numbers: &mut Numbers, cpi: usize) -> Batch {
         match self {
-            Over::Good => good(numbers, cpi),
-            Over::Bad(relation) => bad(good(numbers, cpi), relation),
+            Over::Good => accepted(numbers, cpi),
+            Over::Bad(relation) => bad(accepted(numbers, cpi), relation),
             Over::Zero => Batch::zero(cpi),
             Over::Dense => {
                 let mut batch = Batch::of(cpi, batches::dense(numbers, cpi));
@@ -164,11 +171,6 @@ impl Over {
             }
         }
     }
-}
-
-fn good(numbers: &mut Numbers, cpi: usize) -> Batch {
-    let output = output(numbers);
-    accepted(numbers, cpi, output)
 }
 
 const SHIFT_OUT: usize = 256;

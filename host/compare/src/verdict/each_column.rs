@@ -12,9 +12,9 @@ use crate::parallel::in_parts;
 use crate::report::{test, Tally, Test};
 
 /// What a column becomes, from what it was.
-type Change = fn(u128) -> u128;
+pub type Change = fn(u128) -> u128;
 
-const CHANGES: [Change; 4] = [|_| 2, |_| 1 << 64, |_| 1 << 127, |bit| bit ^ 1];
+pub const CHANGES: [Change; 4] = [|_| 2, |_| 1 << 64, |_| 1 << 127, |bit| bit ^ 1];
 
 /// Rows whose every column is changed.
 const ROWS: usize = 3;

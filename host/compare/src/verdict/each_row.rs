@@ -1,6 +1,5 @@
 //! Each row of the circuit as the first one that does not hold, in batches of every size.
 
-use super::answer::Verdict;
 use super::batches::{self, Batch};
 use super::boundary;
 use super::constraints::{Constraint, Constraints};
@@ -65,19 +64,8 @@ fn each_row(tally: &mut Tally, cpi: usize) {
         let verdict = judge.judge(tally, &mut desk, &mut batch, &place);
         boundary::same(tally, &mut batch, verdict, &place);
         let first = good.position(target, cpi, cycle);
-        tally.same(place, failed_at(verdict), Some(first));
+        tally.same(place, verdict.failed_at(), Some(first));
     });
-}
-
-fn failed_at(verdict: Verdict) -> Option<(Relation, usize)> {
-    match verdict {
-        Verdict::Accepted { .. } => None,
-        Verdict::Failed {
-            relation,
-            batch_row,
-            ..
-        } => Some((relation, batch_row)),
-    }
 }
 
 /// Rows of one program, and the constraints on each.

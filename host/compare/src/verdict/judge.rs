@@ -43,7 +43,8 @@ impl Judge {
         Judge::with_spec(listing, listing.spec(cpi))
     }
 
-    fn with_spec(listing: &Listing, spec: CircuitSpec) -> Judge {
+    /// A listing with its matrices, which are the caller's.
+    pub fn with_spec(listing: &Listing, spec: CircuitSpec) -> Judge {
         Judge {
             cpi: spec.cpi,
             constraints: Constraints::of(&spec, &listing.marks()),

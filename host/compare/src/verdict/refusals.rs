@@ -6,10 +6,11 @@ use super::answer::{
 };
 use super::batches::COLUMNS;
 use super::damages::{
-    circuit_words, too_long, two_wrong_words, wrong_at_last, Damage, Kind, KINDS, PAIRS, TOO_LONG,
+    too_long, two_wrong_words, wrong_at_last, Damage, Kind, KINDS, PAIRS, TOO_LONG,
 };
-use super::forms::{CHECK_HOUSE, FORMS};
+use super::forms::{CHECK_KNOWN, FORMS};
 use super::judge::{refused, Desk, OF_A_REFUSAL};
+use super::known::{self, Known};
 use super::lent::Lent;
 use super::listings::{self, Shape, MARKS, MOST_WORDS};
 use crate::columns::SIZES;
@@ -21,42 +22,13 @@ use crate::report::{test, Tally, Test};
 const RANDOM_LISTINGS: usize = 20_000;
 
 pub fn tests() -> Vec<Test> {
-    let over_circuit = |(name, kind): (&str, Kind)| {
-        test(
-            format!("check_row refuses {name}"),
-            kind(&circuit_words()).len() as u64 * OF_A_REFUSAL,
-            move |tally| all_damages(tally, kind),
-        )
-    };
-    let mut tests = vec![
-        test(
-            "check_row refuses sizes, 1",
-            SIZES_REFUSED.len() as u64 * 2 * OF_A_REFUSAL,
-            sizes,
-        ),
-        test(
-            "check_row refuses batch lengths, 2",
-            9 * 6 * 2 * OF_A_REFUSAL,
-            batch_lengths,
-        ),
-        test(
-            "check_row refuses scratch lengths, 5",
-            9 * 6 * 2 * OF_A_REFUSAL,
-            scratch_lengths,
-        ),
+    let mut tests = with_listing(Known::House);
+    tests.extend([
         test(
             "check_row refuses long listings, 6",
             9 * TOO_LONG as u64 * OF_A_REFUSAL,
             listing_lengths,
         ),
-        test(
-            "check_house refuses sizes and batch lengths, 1 and 2",
-            FORMS as u64 * (SIZES_REFUSED.len() as u64 + 9 * 6),
-            house_refused,
-        ),
-    ];
-    tests.extend(KINDS.map(over_circuit));
-    tests.extend([
         test(
             "check_row refuses at the last of 16384 words",
             3 * OF_A_REFUSAL,
@@ -78,6 +50,47 @@ pub fn tests() -> Vec<Test> {
             random_faults,
         ),
     ]);
+    tests
+}
+
+/// Those that lend a listing which is in order but for what is damaged, and of the check that knows it.
+pub fn with_listing(known: Known) -> Vec<Test> {
+    let (name, words) = (known::name(known), known::listing(known).words());
+    let damaged = |(what, kind): (&str, Kind)| {
+        test(
+            format!("check_row, {name}, refuses {what}"),
+            kind(&words).len() as u64 * OF_A_REFUSAL,
+            move |tally| all_damages(tally, known, kind),
+        )
+    };
+    let mut tests = vec![
+        test(
+            format!("check_row, {name}, refuses sizes, 1"),
+            SIZES_REFUSED.len() as u64 * 2 * OF_A_REFUSAL,
+            move |tally| sizes(tally, known),
+        ),
+        test(
+            format!("check_row, {name}, refuses batch lengths, 2"),
+            9 * 6 * 2 * OF_A_REFUSAL,
+            move |tally| batch_lengths(tally, known),
+        ),
+        test(
+            format!("check_row, {name}, refuses scratch lengths, 5"),
+            9 * 6 * 2 * OF_A_REFUSAL,
+            move |tally| scratch_lengths(tally, known),
+        ),
+        test(
+            format!("check_row, {name}, refuses it with too many words behind it, 6"),
+            9 * OF_A_REFUSAL,
+            move |tally| words_behind(tally, known),
+        ),
+        test(
+            format!("check_known, {name}, refuses sizes and batch lengths, 1 and 2"),
+            FORMS as u64 * (SIZES_REFUSED.len() as u64 + 9 * 6),
+            move |tally| known_refused(tally, known),
+        ),
+    ];
+    tests.extend(KINDS.map(damaged));
     tests
 }
 
@@ -119,10 +132,11 @@ pub const SIZES_REFUSED: [usize; 16] = [
 ];
 
 /// Asked first: once with all else right for one cycle, once with all else wrong.
-fn sizes(tally: &mut Tally) {
+fn sizes(tally: &mut Tally, known: Known) {
+    let words = known::listing(known).words();
     for cpi in SIZES_REFUSED {
         let place = || format!("size {cpi}");
-        let mut right = desk(&circuit_words(), cpi);
+        let mut right = desk(&words, cpi);
         let (mut batch, size) = (zero_batch(1), refusal(SIZE));
         refused(tally, cpi, &mut right, &mut batch, size, &place);
         let mut wrong = Desk::with_scratch(&FAULTY, 1, Numbers::for_test(61));
@@ -131,14 +145,14 @@ fn sizes(tally: &mut Tally) {
     }
 }
 
-fn batch_lengths(tally: &mut Tally) {
-    let house = circuit_words();
+fn batch_lengths(tally: &mut Tally, known: Known) {
+    let listing = known::listing(known).words();
     let mut wrong = Desk::with_scratch(&FAULTY, 1, Numbers::for_test(62));
     for cpi in SIZES {
         let words = 2 * COLUMNS * cpi;
         for len in other_lengths(words) {
             let mut batch = Lent::of(&vec![0; len]);
-            let mut right = desk(&house, cpi << 32 | len);
+            let mut right = desk(&listing, cpi << 32 | len);
             let place = || format!("{len} words for {cpi} cycles");
             for desk in [&mut right, &mut wrong] {
                 refused(tally, cpi, desk, &mut batch, refusal(BATCH_LENGTH), &place);
@@ -148,11 +162,11 @@ fn batch_lengths(tally: &mut Tally) {
 }
 
 /// Two questions are all that there is to ask where no listing and no scratch are lent.
-fn house_refused(tally: &mut Tally) {
+fn known_refused(tally: &mut Tally, known: Known) {
     let mut same = |cpi: usize, words: usize, number: u64| {
         let mut batch = Lent::of(&vec![0; words]);
-        for (form, check) in CHECK_HOUSE {
-            let answer = check(cpi, batch.words());
+        for (form, check) in CHECK_KNOWN {
+            let answer = check(known, cpi, batch.words());
             let right = (refusal(number).answer(), true);
             let place = || format!("{form}, {words} words for {cpi} cycles");
             tally.same(place, (answer, batch.is_right()), right);
@@ -170,12 +184,13 @@ fn house_refused(tally: &mut Tally) {
 }
 
 /// More lengths, and those that are taken, are with the tests of scratch.
-fn scratch_lengths(tally: &mut Tally) {
+fn scratch_lengths(tally: &mut Tally, known: Known) {
+    let words = known::listing(known).words();
     for cpi in SIZES {
         let mut batch = zero_batch(cpi);
         for len in [0, 1, 1535, 3071, 3073, 6144] {
             let place = || format!("{len} words of scratch for {cpi} cycles");
-            for listing in [&circuit_words()[..], &FAULTY] {
+            for listing in [&words[..], &FAULTY] {
                 let mut desk = Desk::with_scratch(listing, len, Numbers::for_test(63));
                 let right = refusal(SCRATCH_LENGTH);
                 refused(tally, cpi, &mut desk, &mut batch, right, &place);
@@ -197,8 +212,20 @@ fn listing_lengths(tally: &mut Tally) {
     }
 }
 
-fn all_damages(tally: &mut Tally, kind: Kind) {
-    let words = circuit_words();
+/// One word more than is taken, all in order: terms of C behind the last row.
+fn words_behind(tally: &mut Tally, known: Known) {
+    let mut words = known::listing(known).words();
+    words.resize(MOST_WORDS + 1, 2 << 30);
+    for cpi in SIZES {
+        let place = || format!("{cpi} cycles");
+        let (mut desk, mut batch) = (desk(&words, cpi), zero_batch(cpi));
+        let right = refusal(LISTING_LENGTH);
+        refused(tally, cpi, &mut desk, &mut batch, right, &place);
+    }
+}
+
+fn all_damages(tally: &mut Tally, known: Known, kind: Kind) {
+    let words = known::listing(known).words();
     let damages = kind(&words);
     in_parts(tally, damages.len(), |tally, i| {
         let Damage {

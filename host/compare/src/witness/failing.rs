@@ -1,5 +1,5 @@
 //! Rows of the original's own interpreter that its own check fails: the classes, a smallest program
-//! of each, and that random programs have no others.
+//! of each, and that random programs have no others. The strict listing fails the same rows, and no other.
 
 use std::sync::atomic::{AtomicUsize, Ordering};
 
@@ -8,7 +8,6 @@ use words::{record_words, rom_words, words_of};
 use super::any_program::AnyProgram;
 use super::maker::ROW_WORDS;
 use crate::house::Relation;
-use crate::listing::BIN_ROWS;
 use crate::numbers::Numbers;
 use crate::original::{self, CircuitSpec, CycleRecord, Gf128, RomRow, VirtualKind};
 use crate::parallel::in_parts;
@@ -16,6 +15,7 @@ use crate::report::{test, Tally, Test};
 use crate::verdict::answer::Verdict;
 use crate::verdict::forms::{self, FORMS};
 use crate::verdict::instructions as isa;
+use crate::verdict::known::{self, Known, KNOWN};
 
 const PROGRAMS: usize = 1_000;
 const CYCLES: usize = 64;
@@ -77,20 +77,9 @@ impl Class {
     }
 }
 
-/// What the check says of a cycle of this class.
-fn verdict(class: Option<Class>) -> Verdict {
-    let Some((relation, row)) = class.map(Class::fails) else {
-        return Verdict::Accepted { rows: 514 };
-    };
-    let before = match relation {
-        Relation::Bin => 0,
-        Relation::Fld => BIN_ROWS,
-    };
-    Verdict::Failed {
-        relation,
-        batch_row: row,
-        rows: before + row + 1,
-    }
+/// What the check against a listing says of a cycle of this class.
+fn verdict(known: Known, class: Option<Class>) -> Verdict {
+    known::verdict(known, 1, class.map(Class::fails))
 }
 
 /// A smallest program of a class: no input, at most so many cycles, and the one cycle that fails.
@@ -282,18 +271,21 @@ pub fn tests() -> Vec<Test> {
     tests
 }
 
-/// The verdicts on a run's rows, by both forms of the product on the rows that it makes, and the relations that
-/// the original names on its own.
+/// By each listing, in both forms of the product.
+type Numbered = [[u64; FORMS]; KNOWN.len()];
+
+/// The verdicts on a run's rows, by the product on the rows that it makes, and the relations that the original
+/// names on its own.
 fn judged(
     spec: &CircuitSpec,
     cycles: &[(CycleRecord, RomRow)],
     public: &[Gf128],
-) -> (Vec<[u64; FORMS]>, Vec<Option<Relation>>) {
+) -> (Vec<Numbered>, Vec<Option<Relation>>) {
     let words = words_of(public);
     let by_product = |(record, rom): &(CycleRecord, RomRow)| {
         let mut row = vec![u64::MAX; ROW_WORDS];
         product::witness_row(&record_words(record), &rom_words(rom), &words, &mut row);
-        forms::of_house(1, &row)
+        KNOWN.map(|known| forms::of_known(known, 1, &row))
     };
     let by_original = |(record, rom): &(CycleRecord, RomRow)| {
         original::check_row(spec, &original::witness_row(record, rom, public))
@@ -302,11 +294,14 @@ fn judged(
     (verdicts, cycles.iter().map(by_original).collect())
 }
 
-fn expected(classes: &[Option<Class>]) -> (Vec<[u64; FORMS]>, Vec<Option<Relation>>) {
-    let verdicts = classes.iter().map(|&class| verdict(class));
-    let numbers = verdicts.clone().map(|verdict| [verdict.number(); FORMS]);
-    let numbers = numbers.collect();
-    (numbers, verdicts.map(Verdict::relation).collect())
+fn expected(classes: &[Option<Class>]) -> (Vec<Numbered>, Vec<Option<Relation>>) {
+    let numbers =
+        |&class: &Option<Class>| KNOWN.map(|known| [verdict(known, class).number(); FORMS]);
+    let relation = |&class: &Option<Class>| class.map(|class| class.fails().0);
+    (
+        classes.iter().map(numbers).collect(),
+        classes.iter().map(relation).collect(),
+    )
 }
 
 fn same(

@@ -2,13 +2,13 @@
 //! `assemble_instance_z` and interpreter; which of its own rows the original's check fails; and
 //! what an accepted row does not say.
 
-mod any_program;
+pub mod any_program;
 mod assembly;
 mod branches;
 mod failing;
 mod limits;
 mod maker;
-mod records;
+pub mod records;
 mod refilled;
 mod rows;
 mod step;

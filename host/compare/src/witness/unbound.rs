@@ -4,7 +4,7 @@
 //! The columns of a row are its instruction, the flags under which a condition speaks of what the
 //! point is about, and the fewest further ones: that no fewer do is tried with every choice of
 //! given columns. Each row stays accepted when all the rest is put as the original's interpreter
-//! has it.
+//! has it. Beside each point stands what the strict listing says of both rows.
 
 use words::elements_of;
 
@@ -13,13 +13,20 @@ use crate::filler::derived::given;
 use crate::house::Relation;
 use crate::original;
 use crate::report::{test, Tally, Test};
-use crate::verdict::answer::Verdict;
 use crate::verdict::batches::{batch_column, Batch, ONE_COLUMN};
 use crate::verdict::forms::{self, FORMS};
+use crate::verdict::known::{self, Known};
 
-/// Comparisons of a row: by the product's check, by its conditions, by the original, and that RV64I
-/// is broken.
-const OF_A_ROW: u64 = 4;
+/// Comparisons of a row: by the product's check, by its conditions, by the original, by the strict listing, and
+/// that RV64I is broken.
+const OF_A_ROW: u64 = 5;
+
+/// What the strict listing says.
+enum Strict {
+    Accepts,
+    /// In this bin row.
+    Fails(usize),
+}
 
 /// One point, for batches of one cycle.
 struct Unbound {
@@ -32,6 +39,8 @@ struct Unbound {
     rest: &'static [usize],
     /// Public element one_col + 1.
     output: u64,
+    /// Of the smallest row, and of the one with all the rest.
+    strict: Strict,
     /// Is it such a row, and no step of RV64I?
     breaks: fn(&Step) -> bool,
 }
@@ -83,6 +92,7 @@ const ALL: [Unbound; 26] = [
         further: &[RS1],
         rest: &[RS1_X1, T1],
         output: 0,
+        strict: Strict::Accepts,
         breaks: |s| s.is_op(0) && s.has(WE) && s.writes() && s.rd != s.rs1 + s.rs2,
     },
     Unbound {
@@ -91,6 +101,7 @@ const ALL: [Unbound; 26] = [
         further: &[RD],
         rest: &[ARITH],
         output: 0,
+        strict: Strict::Accepts,
         breaks: |s| s.is_op(0) && !s.has(WE) && s.writes() && s.rd != s.rs1 + s.rs2,
     },
     Unbound {
@@ -99,6 +110,7 @@ const ALL: [Unbound; 26] = [
         further: &[LOAD_VAL],
         rest: &[WE, ARITH],
         output: 0,
+        strict: Strict::Accepts,
         breaks: |s| s.is_load(0) && !s.has(LOAD) && s.writes() && s.rd != s.signed_byte(s.off),
     },
     Unbound {
@@ -107,6 +119,7 @@ const ALL: [Unbound; 26] = [
         further: &[RS1],
         rest: &[RS1_X1],
         output: 0,
+        strict: Strict::Accepts,
         breaks: |s| s.adds() && s.t1 != s.rs1 && s.rd != s.rs1 + s.rs2,
     },
     Unbound {
@@ -115,6 +128,7 @@ const ALL: [Unbound; 26] = [
         further: &[RS2],
         rest: &[RS2_X1],
         output: 0,
+        strict: Strict::Accepts,
         breaks: |s| s.adds() && s.t2 != s.rs2 && s.rd != s.rs1 + s.rs2,
     },
     Unbound {
@@ -123,6 +137,7 @@ const ALL: [Unbound; 26] = [
         further: &[IMM],
         rest: &[],
         output: 0,
+        strict: Strict::Accepts,
         breaks: |s| s.is_op_imm(0) && s.adds_to_rd() && s.rd != s.rs1 + s.imm,
     },
     Unbound {
@@ -131,6 +146,7 @@ const ALL: [Unbound; 26] = [
         further: &[ALU],
         rest: &[RD_X0, SUB, ARITH],
         output: 0,
+        strict: Strict::Accepts,
         // For funct3 0 taken is whether ALU is 0.
         breaks: |s| s.opcode == 0x63 && s.funct3 == 0 && s.rs1 == s.rs2 && s.alu != 0,
     },
@@ -140,6 +156,7 @@ const ALL: [Unbound; 26] = [
         further: &[RS1],
         rest: &[RS1_X1, T1],
         output: 0,
+        strict: Strict::Accepts,
         breaks: |s| {
             s.is_op(4) && s.has(WE) && s.has(LOGIC) && s.writes() && s.rd.0 != s.rs1.0 ^ s.rs2.0
         },
@@ -150,6 +167,7 @@ const ALL: [Unbound; 26] = [
         further: &[RS2],
         rest: &[RS2_X1, T2],
         output: 0,
+        strict: Strict::Accepts,
         breaks: |s| s.is_op(2) && s.has(WE) && s.writes() && s.rd.0 != u64::from(s.below_signed()),
     },
     Unbound {
@@ -158,6 +176,7 @@ const ALL: [Unbound; 26] = [
         further: &[RS1],
         rest: &[RS1_X1, T1],
         output: 0,
+        strict: Strict::Accepts,
         breaks: |s| {
             s.is_op_imm(1)
                 && s.has(WE)
@@ -172,6 +191,7 @@ const ALL: [Unbound; 26] = [
         further: &[RS1],
         rest: &[RS1_X1, T1],
         output: 0,
+        strict: Strict::Accepts,
         breaks: |s| s.is_op(1) && s.has(WE) && s.writes() && s.rd.0 != s.rs1.0 << (s.rs2.0 & 63),
     },
     Unbound {
@@ -180,6 +200,7 @@ const ALL: [Unbound; 26] = [
         further: &[RD, ALU],
         rest: &[],
         output: 0,
+        strict: Strict::Accepts,
         breaks: |s| s.opcode == 0x37 && s.has(WE) && s.writes() && s.rd.0 & 0xfff != 0,
     },
     Unbound {
@@ -188,6 +209,7 @@ const ALL: [Unbound; 26] = [
         further: &[RS1 + 32, T1 + 32, ALU + 32, RD + 32],
         rest: &[RS1_X1],
         output: 0,
+        strict: Strict::Accepts,
         breaks: |s| {
             let sum = (s.rs1 + s.imm).0 as i32 as u64;
             s.opcode == 0x1b
@@ -204,6 +226,7 @@ const ALL: [Unbound; 26] = [
         further: &[LOAD_VAL + 7, RD + 7],
         rest: &[WE, ARITH],
         output: 0,
+        strict: Strict::Accepts,
         breaks: |s| s.is_load(0) && s.loads(LD_BYTE) && s.off == 0 && s.rd != s.signed_byte(0),
     },
     Unbound {
@@ -212,6 +235,7 @@ const ALL: [Unbound; 26] = [
         further: &[LOAD_VAL + 15, RD + 15],
         rest: &[WE, ARITH],
         output: 0,
+        strict: Strict::Accepts,
         breaks: |s| {
             s.is_load(1) && s.loads(LD_HALF) && s.off == 0 && s.rd.0 != s.load_val as i16 as u64
         },
@@ -222,6 +246,7 @@ const ALL: [Unbound; 26] = [
         further: &[LOAD_VAL + 32, RD + 32],
         rest: &[WE, ARITH],
         output: 0,
+        strict: Strict::Accepts,
         breaks: |s| {
             s.is_load(2) && s.loads(LD_WORD) && s.off == 0 && s.rd.0 != s.load_val as i32 as u64
         },
@@ -232,6 +257,7 @@ const ALL: [Unbound; 26] = [
         further: &[LOAD_VAL, RD],
         rest: &[WE, ARITH, IMM + 2, T2 + 2, ALU + 2],
         output: 0,
+        strict: Strict::Accepts,
         breaks: |s| {
             s.is_load(2)
                 && s.loads(LD_WORD)
@@ -257,6 +283,7 @@ const ALL: [Unbound; 26] = [
             ALU + 2,
         ],
         output: 0,
+        strict: Strict::Accepts,
         // The byte behind lane 7 is in the next word of memory, which is not in the row.
         breaks: |s| s.is_load(1) && s.loads(LD_HALF) && s.off == 7 && s.rd.0 >> 8 & 0xff != 0,
     },
@@ -266,6 +293,7 @@ const ALL: [Unbound; 26] = [
         further: &[OFF, LOAD_VAL],
         rest: &[WE, ARITH],
         output: 0,
+        strict: Strict::Accepts,
         breaks: |s| {
             let address = (s.rs1 + s.imm).0 & 7;
             s.is_load(0) && s.loads(LD_BYTE) && s.off != address && s.rd != s.signed_byte(address)
@@ -277,6 +305,7 @@ const ALL: [Unbound; 26] = [
         further: &[IMM + 3],
         rest: &[RD_X0, T2 + 3],
         output: 0,
+        strict: Strict::Accepts,
         breaks: |s| {
             s.opcode == 0x23
                 && s.has(STORE)
@@ -290,6 +319,7 @@ const ALL: [Unbound; 26] = [
         further: &[RAM_ADDR],
         rest: &[RD_X0, WE, ARITH, LD_BYTE],
         output: 0,
+        strict: Strict::Fails(483),
         breaks: |s| s.is_load(0) && s.has(LOAD) && s.has(STORE) && s.ram_addr != s.alu >> 3 & 0xff,
     },
     Unbound {
@@ -298,6 +328,7 @@ const ALL: [Unbound; 26] = [
         further: &[RS1],
         rest: &[RD_X0, WE, LOAD, LD_BYTE, ARITH, T1, ALU, OFF],
         output: 0,
+        strict: Strict::Accepts,
         breaks: |s| s.is_load(0) && s.bus_rs1 == 0 && s.rs1.0 != 0,
     },
     Unbound {
@@ -306,6 +337,7 @@ const ALL: [Unbound; 26] = [
         further: &[RD],
         rest: &[WE, LOAD, LD_BYTE, ARITH, LOAD_VAL],
         output: 0,
+        strict: Strict::Accepts,
         breaks: |s| s.is_load(0) && s.bus_rd == 0 && s.rd.0 != 0,
     },
     Unbound {
@@ -314,6 +346,7 @@ const ALL: [Unbound; 26] = [
         further: &[RS2],
         rest: &[RD_X0, STORE],
         output: 0,
+        strict: Strict::Accepts,
         breaks: |s| s.opcode == 0x23 && s.bus_rs2 == 0 && s.rs2.0 != 0,
     },
     Unbound {
@@ -322,6 +355,7 @@ const ALL: [Unbound; 26] = [
         further: &[PC],
         rest: &[],
         output: 0,
+        strict: Strict::Accepts,
         breaks: |s| {
             s.opcode == 0x17 && s.has(WE) && s.writes() && s.imm.0 == 0 && s.rd.0 != 4 * s.pc
         },
@@ -332,6 +366,7 @@ const ALL: [Unbound; 26] = [
         further: &[RS1, RD],
         rest: &[RD_X0, T1, ALU],
         output: 1,
+        strict: Strict::Accepts,
         breaks: |s| s.opcode == 0x73 && s.bus_rs1 != 10 && s.rd.0 == 1,
     },
 ];
@@ -347,7 +382,7 @@ pub fn tests() -> Vec<Test> {
     tests.extend([
         test(
             "accepted, and no step of RV64I: JAL that does not write the return address",
-            3,
+            4,
             jump,
         ),
         test(
@@ -357,22 +392,22 @@ pub fn tests() -> Vec<Test> {
         ),
         test(
             "accepted, and no step of RV64I: a branch with funct3 2 or 3, which RV64I reserves",
-            2 * 2 * 4,
+            2 * 2 * 5,
             reserved_branch,
         ),
         test(
             "accepted, and no step of RV64I: the next cycle at any pc",
-            4,
+            6,
             next_pc,
         ),
         test(
             "accepted, and no step of RV64I: a load that does not see the store before it",
-            4,
+            6,
             stored_word,
         ),
         test(
             "the ISA's own LB, LH, LW and SLTU fail",
-            4 * 2,
+            4 * 3,
             isa_results_fail,
         ),
     ]);
@@ -402,12 +437,28 @@ fn filled(cycles: &[&[usize]], output: u64) -> Batch {
 /// What the product, in both its forms, and the original say of a batch.
 fn verdicts(batch: &Batch) -> ([u64; FORMS], Option<Relation>) {
     let spec = original::build_circuit_batched(batch.cpi);
-    let by_product = forms::of_house(batch.cpi, batch.words.words());
+    let by_product = forms::of_known(Known::House, batch.cpi, batch.words.words());
     (by_product, original::check_row(&spec, &batch.z))
 }
 
 fn accepted(cpi: usize) -> [u64; FORMS] {
-    [Verdict::Accepted { rows: 514 * cpi }.number(); FORMS]
+    [known::verdict(Known::House, cpi, None).number(); FORMS]
+}
+
+/// What the strict listing says of a batch, by the product in both its forms and by evaluation: which row is the
+/// first that does not hold, if there is one.
+fn strictly(
+    tally: &mut Tally,
+    batch: &Batch,
+    first: Option<(Relation, usize)>,
+    place: &dyn Fn() -> String,
+) {
+    let right = known::verdict(Known::Strict, batch.cpi, first);
+    let by_product = forms::of_known(Known::Strict, batch.cpi, batch.words.words());
+    let evaluated = known::judge(Known::Strict, batch.cpi).constraints;
+    let seen = (by_product, evaluated.verdict(&batch.z));
+    let strict = || format!("{}, the strict listing", place());
+    tally.same(strict, seen, ([right.number(); FORMS], right));
 }
 
 fn row_holds(tally: &mut Tally, unbound: &Unbound, columns: &[usize], place: &dyn Fn() -> String) {
@@ -417,6 +468,11 @@ fn row_holds(tally: &mut Tally, unbound: &Unbound, columns: &[usize], place: &dy
     let first_unmet = product::first_unmet(1, batch.words.words(), 0);
     tally.same(|| format!("{}, conditions", place()), first_unmet, 0);
     tally.same(|| format!("{}, original", place()), by_original, None);
+    let first = match unbound.strict {
+        Strict::Accepts => None,
+        Strict::Fails(row) => Some((Relation::Bin, row)),
+    };
+    strictly(tally, &batch, first, place);
     let step = Step::of(&|column| batch.z[column].0 == 1);
     let breaks = || format!("{}, RV64I broken", place());
     tally.same(breaks, (unbound.breaks)(&step), true);
@@ -488,6 +544,7 @@ fn search(
 fn jump(tally: &mut Tally) {
     let batch = filled(&[&[OP0, OP1, OP2, OP3, OP5, OP6, RD_X1, WE]], 0);
     tally.same(|| "JAL x1, 0".into(), verdicts(&batch), (accepted(1), None));
+    strictly(tally, &batch, None, &|| "JAL x1, 0".into());
     let step = Step::of(&|column| batch.z[column].0 == 1);
     tally.same(|| "opcode".into(), step.opcode, 0x6f);
     tally.same(|| "RD".into(), step.rd.0, 0);
@@ -513,6 +570,7 @@ fn reserved_branch(tally: &mut Tally) {
             let batch = filled(&[&[&BRANCH[..], columns, rest].concat()], 0);
             let place = |what| format!("funct3 {funct3}, flags {flags}: {what}");
             tally.same(|| place("verdicts"), verdicts(&batch), (accepted(1), None));
+            strictly(tally, &batch, None, &|| place("verdicts"));
             tally.same(|| place("taken"), batch.z[TAKEN].0, 0);
             let step = step_of(&batch, 0);
             let instruction = (step.opcode, step.funct3);
@@ -531,6 +589,7 @@ fn next_pc(tally: &mut Tally) {
     for columns in [&ADDI[..], &whole] {
         let batch = filled(&[columns, columns], 0);
         tally.same(|| "two ADDI".into(), verdicts(&batch), (accepted(2), None));
+        strictly(tally, &batch, None, &|| "two ADDI".into());
         let pcs = [0, 1].map(|cycle| step_of(&batch, cycle).pc);
         tally.same(|| "their pcs".into(), pcs, [0; 2]);
     }
@@ -547,6 +606,7 @@ fn stored_word(tally: &mut Tally) {
         let batch = filled(&columns, 0);
         let place = || "SB, LB".into();
         tally.same(place, verdicts(&batch), (accepted(2), None));
+        strictly(tally, &batch, None, &place);
         let (store, load) = (step_of(&batch, 0), step_of(&batch, 1));
         let seen = (store.rs2.0, store.ram_addr, load.ram_addr, load.rd.0);
         tally.same(
@@ -598,14 +658,12 @@ fn isa_results_fail(tally: &mut Tally) {
         ),
     ];
     for (name, columns, relation, batch_row) in cases {
-        let (by_product, by_original) = verdicts(&filled(&[&columns], 0));
-        let before = if relation == Relation::Bin { 0 } else { 483 };
-        let right = Verdict::Failed {
-            relation,
-            batch_row,
-            rows: before + batch_row + 1,
-        };
+        let batch = filled(&[&columns], 0);
+        let (by_product, by_original) = verdicts(&batch);
+        let first = Some((relation, batch_row));
+        let right = known::verdict(Known::House, 1, first);
         tally.same(|| name.into(), by_product, [right.number(); FORMS]);
         tally.same(|| format!("{name}, original"), by_original, Some(relation));
+        strictly(tally, &batch, first, &|| name.into());
     }
 }

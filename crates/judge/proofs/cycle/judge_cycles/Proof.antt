@@ -12,10 +12,11 @@ use Rattle.judge.proofs.cycle.judge_cycles.Statement.{statement}
 use Rattle.judge.proofs.cycle.judge_cycles.Tie as tie
 
 abbrev Inv-loop : tie.InvT-loop
-Inv-loop cpi words output cycle₀ cycle = (cycle ≤ cpi) × (allJudged words output (cpi - cycle) cycle ≡ allJudged words output cpi 0)
+Inv-loop which cpi words output cycle₀ cycle =
+    (cycle ≤ cpi) × (allJudged which words output (cpi - cycle) cycle ≡ allJudged which words output cpi 0)
 
 abbrev μ-loop : tie.MeasureT-loop
-μ-loop cpi words output cycle₀ cycle = cpi - cycle
+μ-loop which cpi words output cycle₀ cycle = cpi - cycle
 
 loop-holds : tie.Need-loop-holds Inv-loop μ-loop
 loop-holds c = (search needs, rw sub-zero)
@@ -24,7 +25,7 @@ returns : tie.Need-returns Inv-loop μ-loop
 returns c =
     let t = c .before .before .before .loop in let a = c .before .before .before .before .before .args in
     sym
-    (judged-stops (a .words .now) (a .output) (a .cpi) (t .cycle) (c .before .before .loop-test .taken)
+    (judged-stops (a .which) (a .words .now) (a .output) (a .cpi) (t .cycle) (c .before .before .loop-test .taken)
     (sym (c .before .judge-cycle .ensures) ∙ not-true _ (c .if1 .taken)))
     ∙ t .inv .1
 
@@ -33,7 +34,7 @@ loop-again c =
     let t = c .before .before .before .loop in let a = c .before .before .before .before .before .args in (
       omega arith,
       sym
-          (judged-goes (a .words .now) (a .output) (a .cpi) (t .cycle) (c .before .before .loop-test .taken)
+          (judged-goes (a .which) (a .words .now) (a .output) (a .cpi) (t .cycle) (c .before .before .loop-test .taken)
           (sym (c .before .judge-cycle .ensures) ∙ not-false _ (c .if1 .left)))
           ∙ t .inv .1,
     )
@@ -41,7 +42,7 @@ loop-again c =
 returns-2 : tie.Need-returns-2 Inv-loop μ-loop
 returns-2 c =
     let t = c .before .loop in let a = c .before .before .before .args in
-    sym (judged-ends (a .words .now) (a .output) (a .cpi) (t .cycle) (c .loop-test .left)) ∙ t .inv .1
+    sym (judged-ends (a .which) (a .words .now) (a .output) (a .cpi) (t .cycle) (c .loop-test .left)) ∙ t .inv .1
 
 pub judge-cycles-spec : {M : Type 1} → statement M
 judge-cycles-spec =

@@ -15,7 +15,7 @@ short-one-requires c κs = of-one (c .if1 .taken) (c .before .before .pre)
 returns : tie.Need-returns
 returns c =
     let c3 = c .before .before .before in
-    c .short-one .ensures ∙ ap (λ (n : ℕ). shortBits n (c3 .args .batch .now) (replicate (32 * n) 0)) (sym (c .before .if1 .taken))
+    c .short-one .ensures ∙ ap (λ (n : ℕ). shortBits (c3 .args .which) n (c3 .args .batch .now) (replicate (32 * n) 0)) (sym (c .before .if1 .taken))
 
 pub short-bits-spec : {M : Type 1} → statement M
 short-bits-spec =

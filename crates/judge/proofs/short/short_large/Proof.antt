@@ -26,7 +26,7 @@ returns c =
     let c4 = c .before .before .before .before in
     let a = c4 .args in
     c .before .pack-and-judge .ensures
-    ∙ ap (shortBits (a .cpi) (a .batch .now)) (zeros-taken (32 * a .cpi) 8192 (omega (arith, in-range _ _ (c4 .pre))))
+    ∙ ap (shortBits (a .which) (a .cpi) (a .batch .now)) (zeros-taken (32 * a .cpi) 8192 (omega (arith, in-range _ _ (c4 .pre))))
 
 pub short-large-spec : {M : Type 1} → statement M
 short-large-spec =

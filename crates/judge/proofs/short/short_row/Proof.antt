@@ -16,7 +16,7 @@ returns c = (
 returns-2 : tie.Need-returns-2
 returns-2 c = (
   λ e. absurd (false≢true e),
-  λ h. absurd (false≢true (sym (not-true _ (c .if2 .taken)) ∙ c .before .is-house .ensures .1 (h .house))),
+  λ h. absurd (false≢true (sym (not-true _ (c .if2 .taken)) ∙ c .before .is-known .ensures .1 (h .known))),
 )
 
 returns-3 : tie.Need-returns-3
@@ -25,7 +25,7 @@ returns-3 c =
       λ e.
           record {
             scratch = sym (r .before .scratch-fits .ensures) ∙ not-false _ (r .if1 .left);
-            house = l .is-house .ensures .0 (not-false _ (i .if2 .left));
+            known = l .is-known .ensures .0 (not-false _ (i .if2 .left));
             yes = sym (c .short-yes .ensures) ∙ e;
           },
       λ h. c .short-yes .ensures ∙ h .yes,

@@ -20,7 +20,7 @@ returns : tie.Need-returns
 returns c =
     let c4 = c .before .before .before .before in
     let a = c4 .args in
-    c .before .pack-and-judge .ensures ∙ ap (shortBits (a .cpi) (a .batch .now)) (zeros-taken (32 * a .cpi) 512 (omega (arith, c4 .pre .1)))
+    c .before .pack-and-judge .ensures ∙ ap (shortBits (a .which) (a .cpi) (a .batch .now)) (zeros-taken (32 * a .cpi) 512 (omega (arith, c4 .pre .1)))
 
 pub short-small-spec : {M : Type 1} → statement M
 short-small-spec =

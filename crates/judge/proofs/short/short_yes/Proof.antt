@@ -23,7 +23,7 @@ element-requires c κs =
 returns : tie.Need-returns
 returns c =
     let s = c .before in let o = s .before in let x = o .before in let t = x .before in
-    no-one _ _ (sym (t .before .before .ask-batch .ensures) ∙ t .enum-told2 .given .1)
+    no-one _ _ _ (sym (t .before .before .ask-batch .ensures) ∙ t .enum-told2 .given .1)
     (sym (s .same .ensures ∙ ap₂ same (x .element .ensures) (o .one .ensures)) ∙ not-true _ (c .if1 .taken))
 
 short-bits-requires : tie.Need-short-bits-requires
@@ -31,13 +31,13 @@ short-bits-requires c κs =
     let t = c .before .before .before .before in short-in _ _ (sym (t .before .before .ask-batch .ensures) ∙ t .enum-told2 .given .1)
 
 returns-2 : tie.Need-returns-2
-returns-2 c = not-asked _ _ (sym (c .before .before .ask-batch .ensures) ∙ c .enum-told .given .1)
+returns-2 c = not-asked _ _ _ (sym (c .before .before .ask-batch .ensures) ∙ c .enum-told .given .1)
 
 returns-3 : tie.Need-returns-3
 returns-3 c =
     let i = c .before in let s = i .before in let o = s .before in let x = o .before in let t = x .before in
     c .short-bits .ensures
-    ∙ left-bits _ _ (sym (t .before .before .ask-batch .ensures) ∙ t .enum-told2 .given .1)
+    ∙ left-bits _ _ _ (sym (t .before .before .ask-batch .ensures) ∙ t .enum-told2 .given .1)
     (sym (s .same .ensures ∙ ap₂ same (x .element .ensures) (o .one .ensures)) ∙ not-false _ (i .if1 .left))
 
 pub short-yes-spec : {M : Type 1} → statement M
