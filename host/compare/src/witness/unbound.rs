@@ -4,7 +4,8 @@
 //! The columns of a row are its instruction, the flags under which a condition speaks of what the
 //! point is about, and the fewest further ones: that no fewer do is tried with every choice of
 //! given columns. Each row stays accepted when all the rest is put as the original's interpreter
-//! has it. Beside each point stands what the strict listing says of both rows.
+//! has it. Beside each point stands what the strict listing says of both rows; each of the rows that
+//! it adds refuses one.
 
 use words::elements_of;
 
@@ -85,7 +86,7 @@ const F1: usize = 858;
 const F2: usize = 859;
 const IMM: usize = 860;
 
-const ALL: [Unbound; 26] = [
+const ALL: [Unbound; 33] = [
     Unbound {
         name: "ADD with arithmetic clear does not add",
         named: &[OP0, OP1, OP4, OP5, RD_X1, WE],
@@ -321,6 +322,123 @@ const ALL: [Unbound; 26] = [
         output: 0,
         strict: Strict::Fails(483),
         breaks: |s| s.is_load(0) && s.has(LOAD) && s.has(STORE) && s.ram_addr != s.alu >> 3 & 0xff,
+    },
+    Unbound {
+        name: "LB with LD_BYTE and LD_HALF set takes two bytes",
+        named: &[OP0, OP1, RD_X1, LOAD, LD_BYTE, LD_HALF],
+        further: &[LOAD_VAL + 8, RD + 8],
+        rest: &[WE, ARITH],
+        output: 0,
+        strict: Strict::Fails(484),
+        breaks: |s| {
+            s.is_load(0)
+                && s.loads(LD_BYTE)
+                && s.has(LD_HALF)
+                && s.off == 0
+                && s.rd.0 > 0xff
+                && s.rd != s.signed_byte(0)
+        },
+    },
+    Unbound {
+        name: "LB with LD_BYTE and LD_WORD set takes all 64 bits",
+        named: &[OP0, OP1, RD_X1, LOAD, LD_BYTE, LD_WORD],
+        further: &[LOAD_VAL + 32, RD + 32],
+        rest: &[WE, ARITH],
+        output: 0,
+        strict: Strict::Fails(485),
+        breaks: |s| {
+            s.is_load(0)
+                && s.loads(LD_BYTE)
+                && s.has(LD_WORD)
+                && s.off == 0
+                && s.rd.0 > 0xffff
+                && s.rd != s.signed_byte(0)
+        },
+    },
+    Unbound {
+        name: "LH with LD_HALF and LD_WORD set takes all 64 bits",
+        named: &[OP0, OP1, F0, RD_X1, LOAD, LD_HALF, LD_WORD],
+        further: &[LOAD_VAL + 32, RD + 32],
+        rest: &[WE, ARITH],
+        output: 0,
+        strict: Strict::Fails(486),
+        breaks: |s| {
+            s.is_load(1)
+                && s.loads(LD_HALF)
+                && s.has(LD_WORD)
+                && s.off == 0
+                && s.rd.0 > 0xffff
+                && s.rd.0 != s.load_val as i16 as u64
+        },
+    },
+    Unbound {
+        name: "LB with load clear and LD_BYTE set writes more than a byte",
+        named: &[OP0, OP1, RD_X1, LD_BYTE],
+        further: &[RD + 8],
+        // With WE set RD is ALU, which is the address.
+        rest: &[WE, ARITH, IMM + 8, T2 + 8, ALU + 8, RAM_ADDR + 5],
+        output: 0,
+        strict: Strict::Fails(487),
+        breaks: |s| {
+            s.is_load(0)
+                && !s.has(LOAD)
+                && s.has(LD_BYTE)
+                && s.writes()
+                && s.off == 0
+                && s.rd.0 > 0xff
+                && s.rd != s.signed_byte(0)
+        },
+    },
+    Unbound {
+        name: "LH with load clear and LD_HALF set writes more than a half",
+        named: &[OP0, OP1, F0, RD_X1, LD_HALF],
+        further: &[RD + 16],
+        // The same, with the address in RS1.
+        rest: &[WE, ARITH, RS1_X1, RS1 + 16, T1 + 16, ALU + 16],
+        output: 0,
+        strict: Strict::Fails(488),
+        breaks: |s| {
+            s.is_load(1)
+                && !s.has(LOAD)
+                && s.has(LD_HALF)
+                && s.writes()
+                && s.off == 0
+                && s.rd.0 > 0xffff
+                && s.rd.0 != s.load_val as i16 as u64
+        },
+    },
+    Unbound {
+        name: "LD with load clear and LD_WORD set, at any address",
+        named: &[OP0, OP1, F0, F1, LD_WORD],
+        further: &[RAM_ADDR],
+        rest: &[RD_X0, WE, ARITH],
+        output: 0,
+        strict: Strict::Fails(489),
+        breaks: |s| {
+            let address = (s.rs1 + s.imm).0;
+            s.is_load(3)
+                && !s.has(LOAD)
+                && s.has(LD_WORD)
+                && s.alu == address
+                && s.ram_addr != address >> 3 & 0xff
+        },
+    },
+    Unbound {
+        name: "LB with load set and no width writes any byte",
+        named: &[OP0, OP1, RD_X1, LOAD],
+        further: &[RD],
+        rest: &[WE, ARITH],
+        output: 0,
+        strict: Strict::Fails(490),
+        breaks: |s| {
+            let widths = [LD_BYTE, LD_HALF, LD_WORD];
+            s.is_load(0)
+                && s.has(LOAD)
+                && !widths.into_iter().any(|width| s.has(width))
+                && s.writes()
+                && s.off == 0
+                && s.rd.0 as u8 != s.load_val as u8
+        },
     },
     Unbound {
         name: "LB from x0 that is 1",
