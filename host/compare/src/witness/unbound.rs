@@ -86,7 +86,7 @@ const F1: usize = 858;
 const F2: usize = 859;
 const IMM: usize = 860;
 
-const ALL: [Unbound; 33] = [
+const ALL: [Unbound; 34] = [
     Unbound {
         name: "ADD with arithmetic clear does not add",
         named: &[OP0, OP1, OP4, OP5, RD_X1, WE],
@@ -350,6 +350,21 @@ const ALL: [Unbound; 33] = [
             s.is_load(0)
                 && s.loads(LD_BYTE)
                 && s.has(LD_WORD)
+                && s.off == 0
+                && s.rd.0 > 0xffff
+                && s.rd != s.signed_byte(0)
+        },
+    },
+    Unbound {
+        name: "LB with LD_WORD set alone takes all 64 bits",
+        named: &[OP0, OP1, RD_X1, LOAD, LD_WORD],
+        further: &[LOAD_VAL + 32, RD + 32],
+        rest: &[WE, ARITH],
+        output: 0,
+        strict: Strict::Accepts,
+        breaks: |s| {
+            s.is_load(0)
+                && s.loads(LD_WORD)
                 && s.off == 0
                 && s.rd.0 > 0xffff
                 && s.rd != s.signed_byte(0)
