@@ -158,6 +158,21 @@ pub demand3-known : (k : Known) (cpi : ℕ) → allowed cpi ≡ true → (batch 
     → Premises cpi batch → Demand3 (listingOf k) (ConditionsOf k) cpi batch scratch
 demand3-known k = proved (listingOf k) (furtherRows k) (listed k) (ConditionsOf k) (flags-mean k)
 
+-- so one filling is accepted exactly when every cycle meets them, and else none
+pub count-known : (k : Known) (cpi : ℕ) → allowed cpi ≡ true → (batch scratch : List ℕ) → scratchFits (length scratch) ≡ true
+    → Premises cpi batch
+    → (countFillings cpi (λ u. accepts (checked cpi (listingOf k) u scratch .answer)) batch ≡ 1)
+    ↔ ((d : ℕ) → d < cpi → ConditionsOf k (bitsOf cpi batch d) (cycleOf cpi batch d (ONE-COL + 1)))
+count-known k cpi size batch scratch room p =
+    let d = demand3-known k cpi size batch scratch room p in (
+      λ e. d .accepted .0 (is-one-digit _ (sym (d .counted) ∙ e)),
+      λ h. d .counted ∙ ap (λ (t : Bool). digit t) (d .accepted .1 h),
+    )
+  where
+    is-one-digit : (t : Bool) → digit t ≡ 1 → t ≡ true
+    is-one-digit true e = refl
+    is-one-digit false e = absurd (omega (arith, e))
+
 -- the house listing to the ten step conditions
 pub demand3 : (cpi : ℕ) → allowed cpi ≡ true → (batch scratch : List ℕ) → scratchFits (length scratch) ≡ true → Premises cpi batch
     → Demand3 circuitWords Step cpi batch scratch

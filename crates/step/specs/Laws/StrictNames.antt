@@ -200,14 +200,24 @@ module _ (cpi : ℕ) (size : allowed cpi ≡ true) (scratch : List ℕ) (room : 
         scratch = replicate (length scratch) 0;
       }) is-j
 
--- with all numbers written out: a load that stores, in one cycle; a load without a width, in the last of four; a width without a load, in
--- the last of 256
+-- with all numbers written out, each of the eight rows named once: in one cycle a load that stores, loads of two widths, a byte and a half
+-- without a load; a load without a width, in the last of four cycles; a word without a load, in the last of 256
 pub record GivenNames (scratch : List ℕ) : Type 0 where
   pub stores : checked 1 strictWords (filled 1 (flagged 1 0 true true true false false)) scratch
       ≡ record { answer = Judged (Failed Bin 483 484); scratch = replicate (length scratch) 0 }
+  pub byte-half : checked 1 strictWords (filled 1 (flagged 1 0 true false true true false)) scratch
+      ≡ record { answer = Judged (Failed Bin 484 485); scratch = replicate (length scratch) 0 }
+  pub byte-word : checked 1 strictWords (filled 1 (flagged 1 0 true false true false true)) scratch
+      ≡ record { answer = Judged (Failed Bin 485 486); scratch = replicate (length scratch) 0 }
+  pub half-word : checked 1 strictWords (filled 1 (flagged 1 0 true false false true true)) scratch
+      ≡ record { answer = Judged (Failed Bin 486 487); scratch = replicate (length scratch) 0 }
+  pub byte-alone : checked 1 strictWords (filled 1 (flagged 1 0 false false true false false)) scratch
+      ≡ record { answer = Judged (Failed Bin 487 488); scratch = replicate (length scratch) 0 }
+  pub half-alone : checked 1 strictWords (filled 1 (flagged 1 0 false false false true false)) scratch
+      ≡ record { answer = Judged (Failed Bin 488 489); scratch = replicate (length scratch) 0 }
   pub no-width : checked 4 strictWords (filled 4 (flagged 4 3 true false false false false)) scratch
       ≡ record { answer = Judged (Failed Bin 2026 1964); scratch = replicate (length scratch) 0 }
-  pub loads-not : checked 256 strictWords (filled 256 (flagged 256 255 false true false false true)) scratch
+  pub word-alone : checked 256 strictWords (filled 256 (flagged 256 255 false true false false true)) scratch
       ≡ record { answer = Judged (Failed Bin 131049 125695); scratch = replicate (length scratch) 0 }
 
 pub given-names : (scratch : List ℕ) → scratchFits (length scratch) ≡ true → GivenNames scratch
@@ -215,6 +225,11 @@ unfolding allowed firstBroken flagRows lacks sumBits
 given-names scratch room =
     record {
       stores = flags-name 1 refl scratch room 0 (omega arith) true true true false false 0 refl (omega arith);
+      byte-half = flags-name 1 refl scratch room 0 (omega arith) true false true true false 1 refl (omega arith);
+      byte-word = flags-name 1 refl scratch room 0 (omega arith) true false true false true 2 refl (omega arith);
+      half-word = flags-name 1 refl scratch room 0 (omega arith) true false false true true 3 refl (omega arith);
+      byte-alone = flags-name 1 refl scratch room 0 (omega arith) false false true false false 4 refl (omega arith);
+      half-alone = flags-name 1 refl scratch room 0 (omega arith) false false false true false 5 refl (omega arith);
       no-width = flags-name 4 refl scratch room 3 (omega arith) true false false false false 7 refl (omega arith);
-      loads-not = flags-name 256 refl scratch room 255 (omega arith) false true false false true 6 refl (omega arith);
+      word-alone = flags-name 256 refl scratch room 255 (omega arith) false true false false true 6 refl (omega arith);
     }
