@@ -76,10 +76,11 @@ pub fn tests() -> Vec<Test> {
         ));
     }
     for (cpi, batches) in SIZES.into_iter().zip(BATCHES) {
+        let of_each = batches as u64;
         let batches = batches * DAMAGES.len();
         tests.push(test(
             format!("the strict listing, {batches} damaged batches of {cpi}"),
-            batches as u64 * (of_both(cpi) + 1),
+            batches as u64 * of_both(cpi) + of_each,
             move |tally| damaged(tally, cpi, batches),
         ));
     }
@@ -153,9 +154,10 @@ fn damaged(tally: &mut Tally, cpi: usize, batches: usize) {
         let place = || format!("batch {part} of {cpi}, {damage:?}");
         let mut desk = judges.desk(numbers);
         let verdict = judges.judge(tally, &mut desk, &mut batch, &place).strict;
-        let other_filling = damage == Damage::Derived && verdict.is_accepted();
-        let accepted = || format!("{}, another filling accepted", place());
-        tally.same(accepted, other_filling, false);
+        if damage == Damage::Derived {
+            let accepted = || format!("{}, another filling accepted", place());
+            tally.same(accepted, verdict.is_accepted(), false);
+        }
     });
 }
 

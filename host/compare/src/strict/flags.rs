@@ -23,7 +23,7 @@ pub struct Flags {
 
 pub fn tests() -> Vec<Test> {
     vec![test(
-        "the strict rows hold where document 02's sentence does, every choice of flags",
+        "the comparison's own strict rows hold where document 02's sentence does, every choice of flags",
         CHOICES as u64 + 1,
         sentence,
     )]

@@ -56,8 +56,9 @@ impl Judges {
 }
 
 impl Verdicts {
-    /// What the strict listing accepts the house listing accepts. Over bits the strict verdict is the house
-    /// one and what the flags add, and it accepts exactly where document 02's sentence holds beside.
+    /// What the strict listing accepts the house listing accepts, and it fails no later. Over bits the strict
+    /// verdict is the house one and what the flags add, and it accepts exactly where document 02's sentence
+    /// holds beside.
     fn held_together(&self, tally: &mut Tally, batch: &Batch, place: &dyn Fn() -> String) {
         let &Verdicts { house, strict } = self;
         let [by_house, accepted] = [house, strict].map(Verdict::is_accepted);
@@ -66,7 +67,12 @@ impl Verdicts {
                 flags::verdict(house, &flags),
                 by_house && flags.into_iter().all(Flags::are_right),
             ),
-            None => (strict, by_house && accepted),
+            None => {
+                let failed = [house, strict].map(|verdict| verdict.failed_at());
+                let first = failed.into_iter().flatten().min();
+                let told = known::verdict(Known::Strict, batch.cpi, first);
+                (told, by_house && accepted)
+            }
         };
         let by_flags = || format!("{}, told by the house verdict and the flags", place());
         tally.same(by_flags, strict, told);
