@@ -58,7 +58,8 @@ pub record Compares (b : ℕ → Bool) : Type 0 where
 abbrev pub TakesBranch : (ℕ → Bool) → Type 0
 TakesBranch b = (opcode b ≡ 0x63) × (branchHolds (funct3 b) (word b RS1 64) (word b RS2 64) ≡ true)
 
--- Over a listing, and the conditions that its rows come to: the house listing, and the ten step conditions.
+-- Over a listing, and the conditions that its rows come to: the house listing, and the ten step conditions; or the strict listing, and
+-- the strict conditions.
 module _ (listing : List ℕ) (Conditions : (ℕ → Bool) → Gf128 → Type 0) (cpi : ℕ) (batch scratch : List ℕ) where
   -- the check's answer on a batch
   abbrev pub answer : List ℕ → CheckAnswer

@@ -183,11 +183,16 @@ module _ (cpi : ℕ) (size : allowed cpi ≡ true) (w : List ℕ) (p : Premises 
 
 -- ---- so of flags in one cycle, with 0 elsewhere
 
+-- the check of the filler's batch, with the flags of cycle e as they are given, names a bin row and counts the rows tested
+abbrev pub Names : List ℕ → ℕ → ℕ → Bool → Bool → Bool → Bool → Bool → ℕ → ℕ → Type 0
+Names scratch cpi e load store byte half word row rows =
+    checked cpi strictWords (filled cpi (flagged cpi e load store byte half word)) scratch
+    ≡ record { answer = Judged (Failed Bin row rows); scratch = replicate (length scratch) 0 }
+
 module _ (cpi : ℕ) (size : allowed cpi ≡ true) (scratch : List ℕ) (room : scratchFits (length scratch) ≡ true) (e : ℕ) (inside : e < cpi)
     (l s y h w : Bool) where
   flags-name : (j : ℕ) → firstBroken (withOne (flagBits l s y h w)) flagRows ≡ j → j < 8
-      → checked cpi strictWords (filled cpi (flagged cpi e l s y h w)) scratch
-      ≡ record { answer = Judged (Failed Bin (512 * e + 483 + j) (491 * e + 484 + j)); scratch = replicate (length scratch) 0 }
+      → Names scratch cpi e l s y h w (512 * e + 483 + j) (491 * e + 484 + j)
   flags-name j broken few =
       let is-j : firstBroken (bitsOf cpi (flagged cpi e l s y h w) e) flagRows ≡ j
       = ap (λ (b : ℕ → Bool). firstBroken b flagRows) (bits-there cpi size scratch room e inside l s y h w) ∙ broken in
@@ -203,22 +208,14 @@ module _ (cpi : ℕ) (size : allowed cpi ≡ true) (scratch : List ℕ) (room : 
 -- with all numbers written out, each of the eight rows named once: in one cycle a load that stores, loads of two widths, a byte and a half
 -- without a load; a load without a width, in the last of four cycles; a word without a load, in the last of 256
 pub record GivenNames (scratch : List ℕ) : Type 0 where
-  pub stores : checked 1 strictWords (filled 1 (flagged 1 0 true true true false false)) scratch
-      ≡ record { answer = Judged (Failed Bin 483 484); scratch = replicate (length scratch) 0 }
-  pub byte-half : checked 1 strictWords (filled 1 (flagged 1 0 true false true true false)) scratch
-      ≡ record { answer = Judged (Failed Bin 484 485); scratch = replicate (length scratch) 0 }
-  pub byte-word : checked 1 strictWords (filled 1 (flagged 1 0 true false true false true)) scratch
-      ≡ record { answer = Judged (Failed Bin 485 486); scratch = replicate (length scratch) 0 }
-  pub half-word : checked 1 strictWords (filled 1 (flagged 1 0 true false false true true)) scratch
-      ≡ record { answer = Judged (Failed Bin 486 487); scratch = replicate (length scratch) 0 }
-  pub byte-alone : checked 1 strictWords (filled 1 (flagged 1 0 false false true false false)) scratch
-      ≡ record { answer = Judged (Failed Bin 487 488); scratch = replicate (length scratch) 0 }
-  pub half-alone : checked 1 strictWords (filled 1 (flagged 1 0 false false false true false)) scratch
-      ≡ record { answer = Judged (Failed Bin 488 489); scratch = replicate (length scratch) 0 }
-  pub no-width : checked 4 strictWords (filled 4 (flagged 4 3 true false false false false)) scratch
-      ≡ record { answer = Judged (Failed Bin 2026 1964); scratch = replicate (length scratch) 0 }
-  pub word-alone : checked 256 strictWords (filled 256 (flagged 256 255 false true false false true)) scratch
-      ≡ record { answer = Judged (Failed Bin 131049 125695); scratch = replicate (length scratch) 0 }
+  pub stores : Names scratch 1 0 true true true false false 483 484
+  pub byte-half : Names scratch 1 0 true false true true false 484 485
+  pub byte-word : Names scratch 1 0 true false true false true 485 486
+  pub half-word : Names scratch 1 0 true false false true true 486 487
+  pub byte-alone : Names scratch 1 0 false false true false false 487 488
+  pub half-alone : Names scratch 1 0 false false false true false 488 489
+  pub no-width : Names scratch 4 3 true false false false false 2026 1964
+  pub word-alone : Names scratch 256 255 false true false false true 131049 125695
 
 pub given-names : (scratch : List ℕ) → scratchFits (length scratch) ≡ true → GivenNames scratch
 unfolding allowed firstBroken flagRows lacks sumBits
