@@ -18,13 +18,14 @@ extern "C" {
  *
  * The top two bits of the answer are its kind:
  *
- *   0  accepted; the other bits are the number of rows tested
+ *   0  accepted; the other bits are the number of rows tested, those of bin and those of fld together
  *   1  failed; bit 29 is the relation, 0 bin and 1 fld, and bits 8 to 0 the row: the first that does
  *      not hold, all of bin before fld
  *   2  refused; the other bits are the number of the question answered with no, which is 2 for a
  *      `len` other than 65,536
  *
- * 65,536 zero bytes give 0x00000202, and 65,535 bytes give 0x80000002.
+ * 65,536 zero bytes give 0x00000202: 514 rows, 483 of bin and 31 of fld. 65,535 bytes give
+ * 0x80000002.
  */
 uint32_t cellprism_check_row(const uint8_t *bytes, size_t len);
 

@@ -43,8 +43,8 @@ pagesOf words rel n = pages (rowLines 1 words 0 rel n (sidesOf circuitWords rel 
 
 -- where the check fails, the pages of the row that it names (of one cycle, the batch row is the listing's); else rowcheck's line
 abbrev pub answerPrinted : List ℕ → CheckAnswer → List ℕ
-answerPrinted words (Judged (Failed rel n rows)) = withLineEnds (pagesOf words rel n)
-answerPrinted words (Judged (Accepted rows)) = answerLine (Judged (Accepted rows))
+answerPrinted words (Judged (Failed rel n tested)) = withLineEnds (pagesOf words rel n)
+answerPrinted words (Judged (Accepted tested)) = answerLine (Judged (Accepted tested))
 answerPrinted words (Refused r) = answerLine (Refused r)
 
 unfoldable pub printed : List ℕ → List ℕ

@@ -97,11 +97,11 @@ pub fn show(bytes: &[u8], out: &mut [u8]) -> usize
     match answer {
         CheckAnswer::Refused(_) => page::line::put_answer(out, 0, answer),
         CheckAnswer::Judged(v) => match v {
-            Verdict::Accepted { rows: _ } => page::line::put_answer(out, 0, answer),
+            Verdict::Accepted { counts: _ } => page::line::put_answer(out, 0, answer),
             Verdict::Failed {
                 relation,
                 row,
-                rows: _,
+                counts: _,
             } => put_failing(out, bytes, relation, row),
         },
     }

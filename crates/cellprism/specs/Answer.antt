@@ -12,6 +12,7 @@ use Rattle.verdict.specs.declared.Verdict.the-variants.{Accepted, Failed}
 use Rattle.verdict.specs.declared.CheckAnswer.{CheckAnswer}
 use Rattle.verdict.specs.declared.CheckAnswer.the-variants.{Judged, Refused}
 use Rattle.strict.specs.declared.Known.the-variants.{House}
+use Rattle.verdict.specs.Counts.{rows}
 use Rattle.verdict.specs.Check.{knownChecked}
 use Rattle.cellprism.specs.Bytes.{rowOf}
 
@@ -19,11 +20,11 @@ use Rattle.cellprism.specs.Bytes.{rowOf}
 unfoldable pub rowChecked : List ℕ → CheckAnswer
 rowChecked bytes = cond (eqb (length bytes) 65536) (knownChecked House 1 (rowOf bytes)) (Refused (no 2 0))
 
--- kind 0, accepted: rows below; kind 1, failed: bit 29 the relation as in a mark, bits 8..0 the row. (The remainders are those of any
+-- kind 0, accepted: `rows` below, both counts together; kind 1, failed: bit 29 the relation as in a mark, bits 8..0 the row. (The remainders are those of any
 -- verdict: of a row's they cut nothing off, by specs/Exact.antt.)
 abbrev pub verdictWord : Verdict → ℕ
-verdictWord (Accepted rows) = rows % 2 ^ 30
-verdictWord (Failed relation row rows) = 2 ^ 30 + flagWord relation * 2 ^ 29 + row % 2 ^ 9
+verdictWord (Accepted n) = rows n % 2 ^ 30
+verdictWord (Failed relation row n) = 2 ^ 30 + flagWord relation * 2 ^ 29 + row % 2 ^ 9
 
 -- the kind in the top two bits; kind 2, refused: the number below
 abbrev pub answerWord : CheckAnswer → ℕ

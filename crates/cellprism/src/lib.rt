@@ -6,6 +6,7 @@ use circuit::Relation;
 use layout::Asked;
 use strict::Known;
 use verdict::CheckAnswer;
+use verdict::Counts;
 use verdict::Verdict;
 ghost use mathlib.Core.Path.{_≡_};
 ghost use Prim.Native.Nat.{_≤_};
@@ -28,11 +29,11 @@ fn verdict_word(v: Verdict) -> u32
     ensures { λ r. ⌜ r ≡ verdictWord v ⌝ }
 {
     match v {
-        Verdict::Accepted { rows } => (rows % 0x40000000) as u32,
+        Verdict::Accepted { counts } => (counts.rows() % 0x40000000) as u32,
         Verdict::Failed {
             relation,
             row,
-            rows: _,
+            counts: _,
         } => 0x40000000 + relation_bit(relation) * 0x20000000 + (row % 512) as u32,
     }
 }
@@ -55,7 +56,8 @@ pub fn check_bytes(bytes: &[u8]) -> CheckAnswer
         return CheckAnswer::Refused(layout::refused(2));
     }
     if short::short_yes(bytes) {
-        return CheckAnswer::Judged(Verdict::Accepted { rows: 514 });
+        let counts = Counts { bin: 483, fld: 31 };
+        return CheckAnswer::Judged(Verdict::Accepted { counts });
     }
     let mut words = [0u64; layout::ROW_WORDS];
     bytes::read_words(bytes, &mut words);

@@ -34,7 +34,7 @@ module _ (f : List Term → ℕ) where
   overSides [] = 0
   overSides (s ∷ ss) = f (s .a) + f (s .b) + f (s .c) + overSides ss
 
-pub record Counts : Type 0 where
+pub record HouseCounts : Type 0 where
   pub bin-rows : length (joined binFamilies) ≡ 483
   pub bin-terms : overSides length (joined binFamilies) ≡ 1735
   pub fld-rows : length (joined fldFamilies) ≡ 31

@@ -13,6 +13,7 @@ use Rattle.circuit.specs.declared.Relation.{Relation}
 use Rattle.circuit.specs.declared.Relation.the-variants.{Bin, Fld}
 use Rattle.strict.specs.declared.Known.{Known}
 use Rattle.strict.specs.declared.Known.the-variants.{House, Strict}
+use Rattle.verdict.specs.declared.Counts.{Counts}
 use Rattle.verdict.specs.declared.Verdict.{Verdict}
 use Rattle.verdict.specs.declared.Verdict.the-variants.{Accepted, Failed}
 use Rattle.verdict.specs.declared.CheckAnswer.{CheckAnswer}
@@ -31,11 +32,15 @@ use Rattle.packed.specs.Packed.{NamedCalled}
 use Rattle.judge.specs.FillCheck.{FillChecked}
 use Rattle.compare.specs.Numbers.{refusedAt, byRelation}
 
--- accepted: the rows tested; failed: 2^62, and 2^61 for fld, 2^32 times the rows tested, and the batch row. Of the rows 29 bits are
--- kept, of a batch row 32, which is more than a batch has
+-- the counts: 2^40 times that of fld, and 2^20 times that of bin. Of each 20 bits are kept, and as many of a batch row, which is more than
+-- a batch has
+abbrev pub countsNumber : Counts → ℕ
+countsNumber n = n .fld % 2 ^ 20 * 2 ^ 40 + n .bin % 2 ^ 20 * 2 ^ 20
+
+-- accepted: the counts; failed: 2^62, and 2^61 for fld, the counts, and the batch row
 abbrev pub verdictNumber : Verdict → ℕ
-verdictNumber (Accepted rows) = rows % 2 ^ 29
-verdictNumber (Failed rel row rows) = byRelation rel (2 ^ 62) (2 ^ 62 + 2 ^ 61) + rows % 2 ^ 29 * 2 ^ 32 + row % 2 ^ 32
+verdictNumber (Accepted n) = countsNumber n
+verdictNumber (Failed rel row n) = byRelation rel (2 ^ 62) (2 ^ 62 + 2 ^ 61) + countsNumber n + row % 2 ^ 20
 
 abbrev pub checkNumber : CheckAnswer → ℕ
 checkNumber (Judged v) = verdictNumber v

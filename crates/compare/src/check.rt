@@ -8,12 +8,13 @@ ghost use Rattle.verdict.specs.Apply.{applied};
 ghost use Rattle.verdict.specs.Bits.{bitTested};
 ghost use Rattle.judge.specs.FillCheck.{fillChecked};
 ghost use Rattle.compare.specs.Numbers.{keptPlace, refusedAt, byRelation};
-ghost use Rattle.compare.specs.Replies.{verdictNumber, checkNumber, reply, checkReply, fillCheckReply, chosenListing, chosenRelation, sumWords, sumsReply, applyReply, bitNumber};
+ghost use Rattle.compare.specs.Replies.{countsNumber, verdictNumber, checkNumber, reply, checkReply, fillCheckReply, chosenListing, chosenRelation, sumWords, sumsReply, applyReply, bitNumber};
 use circuit::Relation;
 use layout::Refusal;
 use strict::Known;
 use verdict::ApplyAnswer;
 use verdict::CheckAnswer;
+use verdict::Counts;
 use verdict::Sums;
 use verdict::Verdict;
 use verdict::bits::BitAnswer;
@@ -44,19 +45,25 @@ pub fn by_relation(relation: Relation, bin: u64, fld: u64) -> u64
     }
 }
 
+fn counts_number(counts: Counts) -> u64
+    ensures { λ n. ⌜ (n ≡ countsNumber counts) × (n < 2 ^ 60) ⌝ }
+{
+    counts.fld as u64 % 0x100000 * 0x10000000000 + counts.bin as u64 % 0x100000 * 0x100000
+}
+
 fn verdict_number(v: Verdict) -> u64
     ensures { λ n. ⌜ n ≡ verdictNumber v ⌝ }
 {
     match v {
-        Verdict::Accepted { rows } => rows as u64 % 0x20000000,
+        Verdict::Accepted { counts } => counts_number(counts),
         Verdict::Failed {
             relation,
             row,
-            rows,
+            counts,
         } => {
             by_relation(relation, 0x4000000000000000, 0x6000000000000000)
-                + rows as u64 % 0x20000000 * 0x100000000
-                + row as u64 % 0x100000000
+                + counts_number(counts)
+                + row as u64 % 0x100000
         }
     }
 }

@@ -5,10 +5,12 @@ mod short;
 use crate::cycle::judge_cycle;
 use crate::short::short_row;
 use crate::short::short_yes;
+use circuit::Relation;
 use field::Gf128;
 use layout::Asked;
 use strict::Known;
 use verdict::CheckAnswer;
+use verdict::Counts;
 use verdict::Verdict;
 ghost use mathlib.Core.Path.{_≡_};
 ghost use Prim.Native.Nat.{_*_, _≤_};
@@ -17,6 +19,7 @@ ghost use Rattle.layout.specs.declared.Asked.the-variants.{Yes};
 ghost use Rattle.strict.specs.Known.{rowsEach};
 ghost use Rattle.verdict.specs.declared.Verdict.the-variants.{Accepted};
 ghost use Rattle.verdict.specs.declared.CheckAnswer.the-variants.{Judged};
+ghost use Rattle.verdict.specs.Counts.{everyRowOf};
 ghost use Rattle.verdict.specs.Check.{Checked, after, checked, knownChecked};
 ghost use Rattle.judge.specs.FillCheck.{Promised};
 ghost use Rattle.judge.specs.Words.{judgedWords};
@@ -28,13 +31,24 @@ pub fn judge_words(which: Known, words: &[u64; 32], output: Gf128) -> bool
     judge_cycle(which, words, 0, output)
 }
 
+// The rows of one relation, in so many cycles.
+fn rows_in(which: Known, relation: Relation, cpi: usize) -> u32
+    requires { ⌜ cpi ≤ 256 ⌝ }
+    ensures { λ r. ⌜ r ≡ rowsEach which relation * cpi ⌝ }
+{
+    strict::rows_each(which, relation) * cpi as u32
+}
+
 // Accepted, with every row of every cycle counted.
 fn all_rows(which: Known, cpi: usize) -> CheckAnswer
     requires { ⌜ cpi ≤ 256 ⌝ }
-    ensures { λ r. ⌜ r ≡ Judged (Accepted (rowsEach which * cpi)) ⌝ }
+    ensures { λ r. ⌜ r ≡ Judged (Accepted (everyRowOf which cpi)) ⌝ }
 {
-    let rows = strict::rows_each(which) * cpi;
-    CheckAnswer::Judged(Verdict::Accepted { rows })
+    let counts = Counts {
+        bin: rows_in(which, Relation::Bin, cpi),
+        fld: rows_in(which, Relation::Fld, cpi),
+    };
+    CheckAnswer::Judged(Verdict::Accepted { counts })
 }
 
 // The same, with scratch as a verdict leaves it.
@@ -42,7 +56,7 @@ fn accept(which: Known, cpi: usize, scratch: &mut [u64]) -> CheckAnswer
     requires { ⌜ cpi ≤ 256 ⌝ }
     ensures { λ r.
         ⌜ _≡_ {A = Checked} (record { answer = r; scratch = now (scratch .exit) })
-        (after Yes (Accepted (rowsEach which * cpi)) (now (scratch .entry))) ⌝ }
+        (after Yes (Accepted (everyRowOf which cpi)) (now (scratch .entry))) ⌝ }
 {
     verdict::clear(scratch);
     all_rows(which, cpi)

@@ -12,7 +12,7 @@
 --     Verdict           the page asked for with a verdict's row and cycle shows the row that fails
 --     Readings          what is read off a page are the numbers: the head's batch row, a term's batch column, and its element
 --     Given             a given row, laid out by computation in a batch of four cycles; given calls, with what they answer and leave
---     Line              the line of an answer has at most 62 bytes
+--     Line              the line of an answer has at most 86 bytes
 pub mod Lines
 pub mod Places
 pub mod Terms

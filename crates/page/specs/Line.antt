@@ -1,10 +1,11 @@
--- The line that an answer is printed as (document 01, "Makers and readers"), in bytes of ASCII.
+-- The line that an answer is printed as (document 01, "Makers and readers"; document 02, request 7), in bytes of ASCII.
 -- Assumes nothing.
 use mathlib.Core.List.{List, _++_}
 use Prim.Native.Nat.{ℕ}
 use Rattle.base.specs.Text.{ascii}
 use Rattle.text.specs.Digits.{decimal}
 use Rattle.circuit.specs.declared.Relation.{Relation}
+use Rattle.verdict.specs.declared.Counts.{Counts}
 use Rattle.verdict.specs.declared.Verdict.{Verdict}
 use Rattle.verdict.specs.declared.Verdict.the-variants.{Accepted, Failed}
 use Rattle.verdict.specs.declared.CheckAnswer.{CheckAnswer}
@@ -14,12 +15,12 @@ use Rattle.page.specs.Lines.{relationText}
 abbrev pub failedText : Relation → List ℕ
 failedText relation = ascii "failed " ++ relationText relation ++ ascii " row="
 
-abbrev pub rowsText : ℕ → List ℕ
-rowsText rows = ascii "rows=" ++ decimal rows ++ ascii "\n"
+abbrev pub countsText : Counts → List ℕ
+countsText n = ascii "bin=" ++ decimal (n .bin) ++ ascii " fld=" ++ decimal (n .fld) ++ ascii "\n"
 
 abbrev pub verdictLine : Verdict → List ℕ
-verdictLine (Accepted rows) = ascii "accepted " ++ rowsText rows
-verdictLine (Failed relation row rows) = failedText relation ++ decimal row ++ ascii " " ++ rowsText rows
+verdictLine (Accepted n) = ascii "accepted " ++ countsText n
+verdictLine (Failed relation row n) = failedText relation ++ decimal row ++ ascii " " ++ countsText n
 
 abbrev pub answerLine : CheckAnswer → List ℕ
 answerLine (Judged v) = verdictLine v

@@ -1,13 +1,14 @@
-// The line that an answer is printed as. The longest has two numbers of 20 digits, and 62 bytes.
+// The line that an answer is printed as. The longest has three numbers of 20 digits, and 86 bytes.
 use circuit::Relation;
 use verdict::CheckAnswer;
+use verdict::Counts;
 use verdict::Verdict;
 ghost use mathlib.Core.Path.{_≡_};
 ghost use Prim.Native.Nat.{_+_, _≤_};
 ghost use lib.ListN.{length};
 ghost use Rattle.text.specs.Digits.{decimal};
 ghost use Rattle.text.specs.Put.{Put, Placed};
-ghost use Rattle.page.specs.Line.{failedText, rowsText, verdictLine, answerLine};
+ghost use Rattle.page.specs.Line.{failedText, countsText, verdictLine, answerLine};
 
 // Places a part at an index where there is room for it, and gives the index behind it. The next five do the same with their texts; three
 // of them start at 0.
@@ -25,12 +26,14 @@ fn place_decimal(out: &mut [u8], at: usize, n: usize) -> usize
     text::put_decimal(out, at, n)
 }
 
-fn place_rows(out: &mut [u8], at: usize, rows: usize) -> usize
-    requires { ⌜ at + 26 ≤ length (now out) ⌝ }
-    ensures { λ r. ⌜ Placed at (rowsText rows) (now (out .entry)) (now (out .exit)) r ⌝ }
+fn place_counts(out: &mut [u8], at: usize, counts: Counts) -> usize
+    requires { ⌜ at + 50 ≤ length (now out) ⌝ }
+    ensures { λ r. ⌜ Placed at (countsText counts) (now (out .entry)) (now (out .exit)) r ⌝ }
 {
-    let number = place(out, at, b"rows=");
-    let end = place_decimal(out, number, rows);
+    let bin = place(out, at, b"bin=");
+    let between = place_decimal(out, bin, counts.bin as usize);
+    let fld = place(out, between, b" fld=");
+    let end = place_decimal(out, fld, counts.fld as usize);
     place(out, end, b"\n")
 }
 
@@ -45,29 +48,29 @@ fn place_failed(out: &mut [u8], relation: Relation) -> usize
 }
 
 fn place_verdict(out: &mut [u8], v: Verdict) -> usize
-    requires { ⌜ 62 ≤ length (now out) ⌝ }
+    requires { ⌜ 86 ≤ length (now out) ⌝ }
     ensures { λ r. ⌜ Placed 0 (verdictLine v) (now (out .entry)) (now (out .exit)) r ⌝ }
 {
     match v {
-        Verdict::Accepted { rows } => {
+        Verdict::Accepted { counts } => {
             let at = place(out, 0, b"accepted ");
-            place_rows(out, at, rows)
+            place_counts(out, at, counts)
         }
         Verdict::Failed {
             relation,
             row,
-            rows,
+            counts,
         } => {
             let number = place_failed(out, relation);
             let end = place_decimal(out, number, row);
             let at = place(out, end, b" ");
-            place_rows(out, at, rows)
+            place_counts(out, at, counts)
         }
     }
 }
 
 fn place_answer(out: &mut [u8], answer: CheckAnswer) -> usize
-    requires { ⌜ 62 ≤ length (now out) ⌝ }
+    requires { ⌜ 86 ≤ length (now out) ⌝ }
     ensures { λ r. ⌜ Placed 0 (answerLine answer) (now (out .entry)) (now (out .exit)) r ⌝ }
 {
     match answer {
@@ -84,7 +87,7 @@ fn place_answer(out: &mut [u8], answer: CheckAnswer) -> usize
 pub fn put_answer(out: &mut [u8], at: usize, answer: CheckAnswer) -> usize
     ensures { λ r. ⌜ Put at (answerLine answer) (now (out .entry)) (now (out .exit)) r ⌝ }
 {
-    let mut line = [b' '; 64];
+    let mut line = [b' '; 88];
     let n = place_answer(&mut line, answer);
     text::put(out, at, &line[..n])
 }

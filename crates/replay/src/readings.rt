@@ -9,6 +9,7 @@ use compare::check::compare_bit_test;
 use compare::fills::compare_first_unmet;
 use compare::reader::compare_reader;
 use verdict::CheckAnswer;
+use verdict::Counts;
 use verdict::Verdict;
 
 pub enum Reading {
@@ -19,14 +20,20 @@ pub enum Reading {
     Rows,
 }
 
+fn counts_are(counts: Counts, n: [u64; 8]) -> bool {
+    (counts.bin as u64 == n[3]) & (counts.fld as u64 == n[4])
+}
+
 fn verdict_is(v: Verdict, n: [u64; 8]) -> bool {
     match v {
-        Verdict::Accepted { rows } => (n[1] == 0) & (rows as u64 == n[3]),
+        Verdict::Accepted { counts } => (n[1] == 0) & counts_are(counts, n),
         Verdict::Failed {
             relation,
             row,
-            rows,
-        } => (by_relation(relation, 1, 2) == n[1]) & (row as u64 == n[2]) & (rows as u64 == n[3]),
+            counts,
+        } => {
+            (by_relation(relation, 1, 2) == n[1]) & (row as u64 == n[2]) & counts_are(counts, n)
+        }
     }
 }
 

@@ -10,5 +10,5 @@ use Rattle.page.specs.Line.{answerLine}
 
 pub record Lines : Type 0 where
   pub other : (bytes : List ℕ) → (length bytes ≡ 65536 → ⊥) → answerLine (rowChecked bytes) ≡ ascii "refused 2\n"
-  pub zeros : answerLine (rowChecked (replicate 65536 0)) ≡ ascii "accepted rows=514\n"
-  pub one : answerLine (rowChecked (set (replicate 65536 0) 32768 1)) ≡ ascii "failed bin row=263 rows=264\n"
+  pub zeros : answerLine (rowChecked (replicate 65536 0)) ≡ ascii "accepted bin=483 fld=31\n"
+  pub one : answerLine (rowChecked (set (replicate 65536 0) 32768 1)) ≡ ascii "failed bin row=263 bin=264 fld=0\n"

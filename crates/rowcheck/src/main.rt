@@ -7,9 +7,9 @@ ghost use Rattle.text.specs.Put.{Placed};
 ghost use Rattle.page.specs.Line.{answerLine};
 ghost use Rattle.cellprism.specs.Answer.{rowChecked};
 
-// Puts the line of the verdict at the start, and gives how many bytes it has. The longest has two numbers of 20 digits.
+// Puts the line of the verdict at the start, and gives how many bytes it has. The longest has three numbers of 20 digits.
 fn answer(row: &[u8], out: &mut [u8]) -> usize
-    requires { ⌜ 62 ≤ length (now out) ⌝ }
+    requires { ⌜ 86 ≤ length (now out) ⌝ }
     ensures { λ r. ⌜ Placed 0 (answerLine (rowChecked (now (row .entry)))) (now (out .entry)) (now (out .exit)) r ⌝ }
 {
     page::line::put_answer(out, 0, cellprism::check_bytes(row))
@@ -19,7 +19,7 @@ fn answer(row: &[u8], out: &mut [u8]) -> usize
 fn main() {
     let mut row = [0u8; 65537];
     let n = io::read_full(STDIN_FILENO, &mut row);
-    let mut line = [0u8; 64];
+    let mut line = [0u8; 88];
     let end = answer(&row[..n], &mut line);
     io::write_all(STDOUT_FILENO, &line[..end]);
 }

@@ -35,8 +35,8 @@ pub record Premises (cpi : ℕ) (batch : List ℕ) : Type 0 where
 -- ---- the check's two verdicts
 
 abbrev pub acceptedVerdict : Verdict → Bool
-acceptedVerdict (Accepted rows) = true
-acceptedVerdict (Failed relation row rows) = false
+acceptedVerdict (Accepted n) = true
+acceptedVerdict (Failed relation row n) = false
 
 abbrev pub accepts : CheckAnswer → Bool
 accepts (Judged v) = acceptedVerdict v

@@ -2,6 +2,8 @@
 -- Assumes nothing.
 use mathlib.Core.List.{List, []}
 use Prim.Native.Nat.{ℕ}
+use Rattle.circuit.specs.declared.Relation.{Relation}
+use Rattle.circuit.specs.declared.Relation.the-variants.{Bin, Fld}
 use Rattle.circuit.specs.Rows.{Sides}
 use Rattle.circuit.specs.Circuit.{circuitWords}
 use Rattle.strict.specs.declared.Known.{Known}
@@ -18,7 +20,8 @@ abbrev pub furtherRows : Known → List Sides
 furtherRows House = []
 furtherRows Strict = flagRows
 
--- how many rows it has: what an accepted batch counts for each cycle
-abbrev pub rowsEach : Known → ℕ
-rowsEach House = 514
-rowsEach Strict = 522
+-- how many rows it has of a relation: what an accepted batch counts there for each cycle
+abbrev pub rowsEach : Known → Relation → ℕ
+rowsEach House Bin = 483
+rowsEach Strict Bin = 491
+rowsEach k Fld = 31

@@ -2,10 +2,12 @@
 mod table;
 
 use crate::table::STRICT;
+use circuit::Relation;
 ghost use mathlib.Core.Bool.{true};
 ghost use mathlib.Core.Logic.{_↔_};
 ghost use mathlib.Core.Path.{_≡_};
 ghost use lib.ListN.{length};
+ghost use Rattle.circuit.specs.declared.Relation.the-variants.{Bin};
 ghost use Rattle.strict.specs.Rows.{strictWords};
 ghost use Rattle.strict.specs.Known.{listingOf, rowsEach};
 
@@ -51,12 +53,21 @@ pub fn is_known(which: Known, listing: &[u32]) -> bool
     }
 }
 
-// How many rows it has.
-pub fn rows_each(which: Known) -> usize
-    ensures { λ r. ⌜ r ≡ rowsEach which ⌝ }
+fn bins_each(which: Known) -> u32
+    ensures { λ r. ⌜ r ≡ rowsEach which Bin ⌝ }
 {
     match which {
-        Known::House => 514,
-        Known::Strict => 522,
+        Known::House => 483,
+        Known::Strict => 491,
+    }
+}
+
+// How many rows it has of a relation.
+pub fn rows_each(which: Known, relation: Relation) -> u32
+    ensures { λ r. ⌜ r ≡ rowsEach which relation ⌝ }
+{
+    match relation {
+        Relation::Bin => bins_each(which),
+        Relation::Fld => 31,
     }
 }

@@ -1,8 +1,8 @@
--- The check: the constraints of all cycles in their order, the first that does not hold, and how many were tested.
+-- The check: the constraints of all cycles in their order, the first that does not hold, and how many were tested in each relation.
 -- Assumes nothing.
-use mathlib.Core.Bool.{Bool, true, false, cond}
+use mathlib.Core.Bool.{Bool, cond}
 use mathlib.Core.List.{List, [], _∷_, _++_, map}
-use Prim.Native.Nat.{ℕ, _+_}
+use Prim.Native.Nat.{ℕ}
 use lib.ListN.{length, replicate}
 use Rattle.base.specs.Lists.{fromEach}
 use Rattle.field.specs.declared.Gf128.{Gf128}
@@ -10,19 +10,20 @@ use Rattle.layout.specs.declared.Asked.{Asked}
 use Rattle.layout.specs.declared.Asked.the-variants.{Yes, No}
 use Rattle.layout.specs.Batch.{batchAsked, scratchFits}
 use Rattle.layout.specs.Questions.{no, ifYes}
-use Rattle.circuit.specs.declared.Relation.{Relation}
 use Rattle.circuit.specs.declared.Relation.the-variants.{Bin, Fld}
-use Rattle.circuit.specs.Rows.{Row}
+use Rattle.circuit.specs.Rows.{Row, ofRelation}
 use Rattle.circuit.specs.Parse.{rowsOf}
 use Rattle.circuit.specs.Batched.{batchRow}
 use Rattle.circuit.specs.Valid.{validated}
 use Rattle.strict.specs.declared.Known.{Known}
 use Rattle.strict.specs.Known.{listingOf}
+use Rattle.verdict.specs.declared.Counts.{Counts}
 use Rattle.verdict.specs.declared.Verdict.{Verdict}
 use Rattle.verdict.specs.declared.Verdict.the-variants.{Accepted, Failed}
 use Rattle.verdict.specs.declared.CheckAnswer.{CheckAnswer}
 use Rattle.verdict.specs.declared.CheckAnswer.the-variants.{Judged, Refused}
 use Rattle.verdict.specs.Row.{cycleOf, holds}
+use Rattle.verdict.specs.Counts.{none, counted}
 
 -- a row to be tested in a cycle: what document 01 calls a cycle-and-mark pair
 pub record Constraint : Type 0 where
@@ -31,17 +32,6 @@ pub record Constraint : Type 0 where
 
 abbrev pub inCycle : ℕ → Row → Constraint
 inCycle d r = record { cycle = d; row = r }
-
-abbrev pub sameRelation : Relation → Relation → Bool
-sameRelation Bin Bin = true
-sameRelation Fld Fld = true
-sameRelation Bin Fld = false
-sameRelation Fld Bin = false
-
--- the rows of one relation
-unfoldable pub ofRelation : Relation → List Row → List Row
-ofRelation rel [] = []
-ofRelation rel (r ∷ rs) = cond (sameRelation (r .relation) rel) (r ∷ ofRelation rel rs) (ofRelation rel rs)
 
 -- rows in each of n cycles from d on: by cycle, then row
 abbrev pub inCycles : ℕ → ℕ → List Row → List Constraint
@@ -55,17 +45,19 @@ constraints cpi rs = inCycles 0 cpi (ofRelation Bin rs) ++ inCycles 0 cpi (ofRel
 abbrev pub met : (ℕ → ℕ → Gf128) → Constraint → Bool
 met view k = holds (view (k .cycle)) (k .row .sides)
 
--- the verdict from here on, where n pairs were tested before: the first constraint that does not hold ends it
+-- failure at a constraint, with the counts, itself included
+abbrev pub failedAt : Constraint → Counts → Verdict
+failedAt k n = Failed (k .row .relation) (batchRow (k .row .relation) (k .cycle) (k .row .number)) n
+
+-- the verdict from here on, where so many pairs were tested before: each counts in its relation, and the first that does not hold ends it
 module _ (test : Constraint → Bool) where
-  unfoldable pub run : ℕ → List Constraint → Verdict
+  unfoldable pub run : Counts → List Constraint → Verdict
   run n [] = Accepted n
-  run n (k ∷ ks) =
-      cond (test k) (run (n + 1) ks)
-      (Failed (k .row .relation) (batchRow (k .row .relation) (k .cycle) (k .row .number)) (n + 1))
+  run n (k ∷ ks) = cond (test k) (run (counted (k .row .relation) n) ks) (failedAt k (counted (k .row .relation) n))
 
 -- the verdict on a batch, with no question asked
 unfoldable pub judged : ℕ → List ℕ → List ℕ → Verdict
-judged cpi listing batch = run (met (cycleOf cpi batch)) 0 (constraints cpi (rowsOf listing))
+judged cpi listing batch = run (met (cycleOf cpi batch)) none (constraints cpi (rowsOf listing))
 
 -- questions 1, 2, 5, and those on the listing; of batch and scratch the number of words
 unfoldable pub asked : ℕ → List ℕ → ℕ → ℕ → Asked

@@ -3,6 +3,9 @@
 --     Apply             the row that the search finds is a row of the listing, and its terms are in order
 --     BitTest           the bit test refuses, says all bits, or names the first column above 1 by its column and cycle
 --     ColumnAlone       one column alone: where the others are 0, what rows say is told by a test that computes
+--     Counted           bin and fld are counted apart in every verdict and of every call
+--     Counts            counts add up relation by relation; what constraints count, and that their number is the sum
+--     Known             what every row of every cycle counts, over a listing that is known by name
 --     LaterCycles       failing verdicts of every cycle of every size, with their numbers written out
 --     Named             a row's outcome depends on the columns that its terms of nonzero coefficient name, and on nothing else
 --     Order             a listing that passes questions 6 to 10 is in order: the sides of each row ascend
@@ -22,6 +25,9 @@ pub mod Agree
 pub mod Apply
 pub mod BitTest
 pub mod ColumnAlone
+pub mod Counted
+pub mod Counts
+pub mod Known
 pub mod LaterCycles
 pub mod Named
 pub mod Order

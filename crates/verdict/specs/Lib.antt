@@ -1,7 +1,9 @@
 -- The check of a batch, a row's sums, the bit test. The last four serve contracts of private functions.
 -- What a reader must believe:
 --     Row               what a row says of a cycle
+--     Counts            how many constraints were tested, bin and fld apart; `rows`, their sum
 --     Check             the check: the constraints of all cycles in their order, the first that does not hold, and how many were tested
+--     Counted           bin and fld counted apart, of a verdict; their sum is what `rows` was
 --     Scratch           what the check's answer takes from its scratch: nothing but question 5
 --     Apply             the sums of one row of a listing in one cycle of a batch
 --     Bits              the bit test
@@ -14,7 +16,9 @@
 --     StillToTest       what is left of the check at each of its loops
 -- What follows from these, which the prover checks: Laws.
 pub mod Row
+pub mod Counts
 pub mod Check
+pub mod Counted
 pub mod Scratch
 pub mod Apply
 pub mod Bits

@@ -22,7 +22,7 @@ module _ (cpi : ℕ) (listing batch : List ℕ) where
   Call scratch a left = _≡_ {A = Checked} (record { answer = a; scratch = left }) (checked cpi listing batch scratch)
 
   pub record AnyScratch : Type 0 where
-    -- any two accepted lengths, whatever the words are: one answer, the count of rows tested included
+    -- any two accepted lengths, whatever the words are: one answer, both counts included
     pub same : (s t : List ℕ) → scratchFits (length s) ≡ true → scratchFits (length t) ≡ true → (a b : CheckAnswer) (u v : List ℕ)
         → Call s a u → Call t b v → a ≡ b
     -- what that answer is: what questions 1, 2 and 6 to 10 refuse, or else the verdict on the batch

@@ -1,4 +1,4 @@
-// The verdict on a batch: which row of which cycle is the first that does not hold, and how many were tested.
+// The verdict on a batch: which row of which cycle is the first that does not hold, and how many were tested in each relation.
 pub mod bits;
 mod rows;
 mod walk;
@@ -17,18 +17,34 @@ ghost use lib.ListN.{length, replicate};
 ghost use Rattle.layout.specs.Batch.{allowed, batchWords};
 ghost use Rattle.strict.specs.Known.{listingOf};
 ghost use Rattle.verdict.specs.Apply.{RowFound, appliedAt, appliedTo, applied};
+ghost use Rattle.verdict.specs.Counts.{rows};
 ghost use Rattle.verdict.specs.Check.{Checked, asked, judged, checked, knownChecked};
 
-// A verdict: `rows` counts the cycle-and-mark pairs that were tested, the failing one included; `row` is the batch row, 512 · d + r in
-// bin and 32 · d + r in fld.
+// How many cycle-and-mark pairs were tested, the failing one included: those of bin, and those of fld, which is 0 until bin has passed.
+// A batch has at most 131,072 of the one and 8,192 of the other.
+pub struct Counts {
+    pub bin: u32,
+    pub fld: u32,
+}
+
+impl Counts {
+    // Both together.
+    pub fn rows(self) -> usize
+        ensures { λ r. ⌜ r ≡ rows self ⌝ }
+    {
+        self.bin as usize + self.fld as usize
+    }
+}
+
+// A verdict: `row` is the batch row, 512 · d + r in bin and 32 · d + r in fld.
 pub enum Verdict {
     Accepted {
-        rows: usize,
+        counts: Counts,
     },
     Failed {
         relation: Relation,
         row: usize,
-        rows: usize,
+        counts: Counts,
     },
 }
 

@@ -1,10 +1,11 @@
 // The loops of the check: relation, cycle, row.
+use crate::Counts;
 use crate::Verdict;
 use crate::rows::test_row;
 use circuit::Relation;
 ghost use mathlib.Core.Path.{_≡_};
 ghost use mathlib.Core.Bool.{true};
-ghost use Prim.Native.Nat.{_+_, _*_, _<_, _≤_};
+ghost use Prim.Native.Nat.{_+_, _*_, _^_, _<_, _≤_};
 ghost use lib.ListN.{length};
 ghost use Rattle.layout.specs.declared.Asked.the-variants.{Yes};
 ghost use Rattle.layout.specs.Batch.{allowed, batchWords};
@@ -13,6 +14,7 @@ ghost use Rattle.circuit.specs.Batched.{batchRow};
 ghost use Rattle.circuit.specs.Valid.{validated};
 ghost use Rattle.verdict.specs.Row.{cycleOf};
 ghost use Rattle.verdict.specs.RowParts.{sorted};
+ghost use Rattle.verdict.specs.Counts.{none, counted, rows};
 ghost use Rattle.verdict.specs.Check.{met, run, judged};
 ghost use Rattle.verdict.specs.Order.{isFldMark};
 ghost use Rattle.verdict.specs.StillToTest.{partAt, allParts};
@@ -53,17 +55,34 @@ fn batch_row(relation: Relation, cycle: usize, row: usize) -> usize
     circuit::search::rows_a_cycle(relation) * cycle + row
 }
 
+// One more was tested, of a relation.
+fn one_more(tested: Counts, relation: Relation) -> Counts
+    requires { ⌜ rows tested + 1 < 2 ^ 32 ⌝ }
+    ensures { λ r. ⌜ r ≡ counted relation tested ⌝ }
+{
+    match relation {
+        Relation::Bin => Counts {
+            bin: tested.bin + 1,
+            fld: tested.fld,
+        },
+        Relation::Fld => Counts {
+            bin: tested.bin,
+            fld: tested.fld + 1,
+        },
+    }
+}
+
 // Left by its label at the first row that does not hold.
 fn walk_parts<'a>(cpi: usize, bin: &'a [u32], fld: &'a [u32], batch: &[u64]) -> Verdict
     requires { ⌜ (cpi ≤ 256) × ((length (now batch) ≡ batchWords cpi)
         × ((length (now bin) ≤ 16384) × ((length (now fld) ≤ 16384) × ((sorted 3 (now bin) ≡ true) × (sorted 3 (now fld) ≡ true))))) ⌝ }
-    ensures { λ r. ⌜ r ≡ run (met (cycleOf cpi (now (batch .entry)))) 0 (allParts cpi (now (bin .entry)) (now (fld .entry)) 0) ⌝ }
+    ensures { λ r. ⌜ r ≡ run (met (cycleOf cpi (now (batch .entry)))) none (allParts cpi (now (bin .entry)) (now (fld .entry)) 0) ⌝ }
 {
-    let mut tested: usize = 0;
+    let mut tested = Counts { bin: 0, fld: 0 };
     let mut relation: usize = 0;
     'relations: loop {
         if relation == 2 {
-            break 'relations Verdict::Accepted { rows: tested };
+            break 'relations Verdict::Accepted { counts: tested };
         }
         let mut cycle: usize = 0;
         'cycles: while cycle < cpi {
@@ -71,14 +90,14 @@ fn walk_parts<'a>(cpi: usize, bin: &'a [u32], fld: &'a [u32], batch: &[u64]) -> 
             let mut at: usize = 0;
             'rows: while at < part.len() {
                 let mark = part[at];
+                let kind = circuit::words::relation_of(mark);
                 let row = test_row(cpi, part, at + 1, batch, cycle);
-                tested = tested + 1;
+                tested = one_more(tested, kind);
                 if !row.holds {
-                    let kind = circuit::words::relation_of(mark);
                     break 'relations Verdict::Failed {
                         relation: kind,
                         row: batch_row(kind, cycle, (mark % 512) as usize),
-                        rows: tested,
+                        counts: tested,
                     };
                 }
                 at = row.end;

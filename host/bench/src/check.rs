@@ -3,7 +3,6 @@
 
 use std::hint::black_box;
 
-use cellprism::Answer;
 use magnetar_cpu::circuit::{build_circuit_batched, check_row, CircuitSpec};
 
 use crate::inputs::{Accepted, Listing, HOUSE, LEAST_SCRATCH, MOST_SCRATCH};
@@ -62,9 +61,9 @@ impl Checked {
                     &mut || {
                         each(&accepted, right, |z| {
                             assert!(product::is_known(known, words()));
-                            let rows = product::check_known(known, cpi, z);
+                            let verdict = product::check_known(known, cpi, z);
                             product::clear(black_box(&mut behind));
-                            rows
+                            verdict
                         });
                     },
                     &mut || {
@@ -122,8 +121,7 @@ impl FromBytes {
         let (cpi, batches, repetitions) = CHECKS[0];
         let accepted = Accepted::new(cpi, batches);
         let spec = build_circuit_batched(cpi);
-        let rows = HOUSE.rows as u32;
-        let right = Answer::Accepted { rows };
+        let right = HOUSE.row_accepted();
         let units = batches;
         let [original, read, check] = in_turn(
             Work { units, repetitions },
@@ -150,8 +148,8 @@ impl FromBytes {
 /// One check by the product of each batch.
 fn each(accepted: &Accepted, right: u64, mut check: impl FnMut(&[u64]) -> u64) {
     for words in &accepted.words {
-        let rows = check(black_box(words));
-        assert_eq!(rows, right, "the product does not accept");
+        let verdict = check(black_box(words));
+        assert_eq!(verdict, right, "the product does not accept");
     }
 }
 

@@ -7,7 +7,7 @@ use std::ops::Range;
 
 use product::Known;
 
-use crate::inputs::{Accepted, Listing, HOUSE};
+use crate::inputs::{counts, Accepted, Listing, HOUSE};
 use crate::table::{fine, head, line, ratio};
 use crate::timing::{in_turn, Work};
 
@@ -70,14 +70,16 @@ impl Place {
 
     /// The verdict as the boundary writes it.
     pub fn verdict(self, listing: &Listing, cpi: usize) -> u64 {
-        let &Listing { rows, bin_rows, .. } = listing;
+        let &Listing {
+            bin_rows, fld_rows, ..
+        } = listing;
         let cycle = self.cycle(cpi);
-        let (fld, batch_row, rows) = match self {
-            Place::First => (0, 0, 1),
-            Place::Middle => (0, 512 * cycle + 409, bin_rows * cycle + 410),
-            Place::Last => (1, 32 * cycle + 30, rows * cpi),
+        let (is_fld, batch_row, tested) = match self {
+            Place::First => (0, 0, counts(1, 0)),
+            Place::Middle => (0, 512 * cycle + 409, counts(bin_rows * cycle + 410, 0)),
+            Place::Last => (1, 32 * cycle + 30, counts(bin_rows * cpi, fld_rows * cpi)),
         };
-        1 << 62 | fld << 61 | (rows as u64) << 32 | batch_row as u64
+        1 << 62 | is_fld << 61 | tested | batch_row as u64
     }
 }
 

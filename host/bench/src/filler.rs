@@ -55,8 +55,8 @@ fn time(cpi: usize, batches: usize, repetitions: usize) -> [f64; 2] {
             &mut || {
                 for words in &accepted.words {
                     let words = black_box(&words[..]);
-                    let rows = product::check_row_plain(cpi, &listing, words, &mut scratch);
-                    assert_eq!(rows, HOUSE.accepted(cpi), "the product does not accept");
+                    let verdict = product::check_row_plain(cpi, &listing, words, &mut scratch);
+                    assert_eq!(verdict, HOUSE.accepted(cpi), "the product does not accept");
                 }
             },
             &mut || {

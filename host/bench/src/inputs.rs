@@ -1,5 +1,6 @@
 //! What both sides are given: the same bytes, as elements, as words, as bytes.
 
+use cellprism::Answer;
 use magnetar_cpu::circuit::{assemble_instance_z, witness_row, WITNESS_LAYOUT};
 use magnetar_cpu::execute;
 use magnetar_cpu::expand::RomRow;
@@ -8,29 +9,29 @@ use magnetar_field::Gf128;
 use product::Known;
 use words::{record_words, rom_words, words_of};
 
-/// A listing that is known by name: its words, the rows of a cycle, and those of bin among them.
+/// A listing that is known by name: its words, and the rows of a cycle in each relation.
 pub struct Listing {
     pub known: Known,
     pub name: &'static str,
     words: usize,
-    pub rows: usize,
     pub bin_rows: usize,
+    pub fld_rows: usize,
 }
 
 pub const HOUSE: Listing = Listing {
     known: Known::House,
     name: "house",
     words: 3499,
-    rows: 514,
     bin_rows: 483,
+    fld_rows: 31,
 };
 
 pub const STRICT: Listing = Listing {
     known: Known::Strict,
     name: "strict",
     words: 3529,
-    rows: 522,
     bin_rows: 491,
+    fld_rows: 31,
 };
 
 impl Listing {
@@ -41,8 +42,19 @@ impl Listing {
 
     /// The verdict on a batch that is accepted, as the boundary writes it.
     pub fn accepted(&self, cpi: usize) -> u64 {
-        (self.rows * cpi) as u64
+        counts(self.bin_rows * cpi, self.fld_rows * cpi)
     }
+
+    /// The C boundary's answer on a row that is accepted: it has the sum.
+    pub fn row_accepted(&self) -> Answer {
+        let rows = (self.bin_rows + self.fld_rows) as u32;
+        Answer::Accepted { rows }
+    }
+}
+
+/// Rows tested in bin and in fld, as they stand in a verdict's number.
+pub fn counts(bin: usize, fld: usize) -> u64 {
+    (fld as u64) << 40 | (bin as u64) << 20
 }
 
 /// Words of scratch that the check may be lent: a multiple of the least, up to the most.

@@ -69,10 +69,9 @@ fn of_check_row(damaged: &Damaged, listing: &Listing, check: CheckRow) -> Bytes 
 /// From bytes, for one cycle.
 fn of_boundary(damaged: &Damaged) -> Bytes {
     let [good, bad] = batches(damaged, &HOUSE).map(|(words, _)| bytes_of(&words));
-    let rows = HOUSE.rows as u32;
     let (relation, row) = (Relation::Fld, 30);
     let answers = [
-        (good, Answer::Accepted { rows }),
+        (good, HOUSE.row_accepted()),
         (bad, Answer::Failed { relation, row }),
     ];
     each(answers, cellprism::check_row)

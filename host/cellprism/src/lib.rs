@@ -10,6 +10,9 @@
 //! assert_eq!(check_row(&row), Answer::Accepted { rows: 514 });
 //! ```
 //!
+//! The 514 are the rows tested in both relations together, 483 in bin and 31 in fld. This crate has
+//! the C answer alone, which carries no more than their sum.
+//!
 //! A caller that goes on only with an accepted row takes the answer as a [`Result`]:
 //!
 //! ```
@@ -55,7 +58,8 @@ pub enum Relation {
     Fld,
 }
 
-/// What the check says of a row.
+/// What the check says of a row. Of an accepted one it has a single count, the sum of the rows tested
+/// in bin and in fld.
 ///
 /// A match on it ends with an arm for whatever else there may be. That arm is not one for acceptance:
 ///
@@ -85,7 +89,7 @@ pub enum Relation {
 pub enum Answer {
     /// Every constraint holds.
     Accepted {
-        /// How many were tested.
+        /// How many were tested: the sum of the rows tested in bin and in fld, 483 + 31 = 514.
         rows: u32,
     },
     /// A constraint does not hold, and all before it do: bin comes before fld.
@@ -110,7 +114,7 @@ impl Answer {
         matches!(self, Answer::Accepted { .. })
     }
 
-    /// The number of constraints tested, or why the row was not accepted.
+    /// The number of constraints tested, in bin and in fld together, or why the row was not accepted.
     ///
     /// ```
     /// use cellprism::{Answer, Relation, RowError};
@@ -182,7 +186,7 @@ impl fmt::Display for RowError {
 ///
 /// | bits 31, 30 | kind | the other bits |
 /// |---|---|---|
-/// | 0 | accepted | 29 to 0: rows tested |
+/// | 0 | accepted | 29 to 0: rows tested, in bin and in fld together |
 /// | 1 | failed | 29: the relation as in a row mark, 0 bin and 1 fld; 8 to 0: the row |
 /// | 2 | refused | 29 to 0: the number |
 ///
@@ -220,7 +224,9 @@ pub fn check_row(row: &[u8]) -> Answer {
     Answer::from(unsafe { c::cellprism_check_row(row.as_ptr(), row.len()) })
 }
 
-/// The words of program `rowcheck`, without the count that a failure carries there.
+/// The words of program `rowcheck`, but for its counts. The program has the verdict itself, in which
+/// bin and fld are counted apart, and prints `accepted bin=483 fld=31`. The C answer carries only
+/// their sum, printed here as `accepted rows=514`, and no count with a failure.
 impl fmt::Display for Answer {
     fn fmt(&self, f: &mut fmt::Formatter<'_>) -> fmt::Result {
         match self {

@@ -187,8 +187,9 @@ fn an_error_passes_through_a_box() {
     );
 }
 
+/// `rowcheck` has `bin=483 fld=31` for `rows=514`, and two counts behind a failure.
 #[test]
-fn answers_print_as_rowcheck_does() {
+fn answers_print_as_rowcheck_does_but_for_the_counts() {
     let texts = [
         (0x0000_0202, "accepted rows=514"),
         (0x4000_0107, "failed bin row=263"),

@@ -347,8 +347,9 @@ pub fn default_cpi() -> u64 {
     unsafe { c::compare_default_cpi() }
 }
 
-/// The verdict on a batch, two words an element. Accepted: rows. Failed: 2^62 + relation · 2^61 +
-/// rows · 2^32 + batch row. Refused: 2^63 + number · 2^32 + place.
+/// The verdict on a batch, two words an element, with the rows tested in each relation, bin and fld.
+/// Accepted: fld · 2^40 + bin · 2^20. Failed: 2^62, and 2^61 more for a row of fld, + fld · 2^40 +
+/// bin · 2^20 + batch row. Refused: 2^63 + number · 2^32 + place.
 pub fn check_row(cpi: usize, listing: &[u32], batch: &[u64], scratch: &mut [u64]) -> u64 {
     checked(Way::Usual, cpi, listing, batch, scratch)
 }

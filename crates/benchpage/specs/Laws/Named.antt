@@ -19,12 +19,14 @@ use Rattle.circuit.specs.Circuit.{circuitWords}
 use Rattle.circuit.specs.Found.{found}
 use Rattle.circuit.specs.Batched.{batchRow}
 use Rattle.circuit.specs.Laws.House.{in-order}
+use Rattle.verdict.specs.declared.Counts.{Counts}
 use Rattle.verdict.specs.declared.Verdict.{Verdict}
 use Rattle.verdict.specs.declared.Verdict.the-variants.{Accepted, Failed}
 use Rattle.verdict.specs.declared.CheckAnswer.{CheckAnswer}
 use Rattle.verdict.specs.declared.CheckAnswer.the-variants.{Judged, Refused}
 use Rattle.verdict.specs.Row.{cycleOf, holds}
 use Rattle.strict.specs.declared.Known.the-variants.{House}
+use Rattle.verdict.specs.Counts.{none}
 use Rattle.verdict.specs.Check.{judged, knownChecked}
 use Rattle.verdict.specs.Laws.Shown.{failed-names}
 use Rattle.cellprism.specs.Bytes.{rowOf}
@@ -44,10 +46,10 @@ first-cycle : (rel : Relation) (d n b : ℕ) → d < 1 → b ≡ batchRow rel d 
 first-cycle Bin d n b h e = (omega arith, omega arith)
 first-cycle Fld d n b h e = (omega arith, omega arith)
 
-judged-named : (bytes : List ℕ) (rel : Relation) (n rows : ℕ) → length bytes ≡ 65536
-    → judged 1 circuitWords (rowOf bytes) ≡ Failed rel n rows → Named bytes rel n
+judged-named : (bytes : List ℕ) (rel : Relation) (n : ℕ) (tested : Counts) → length bytes ≡ 65536
+    → judged 1 circuitWords (rowOf bytes) ≡ Failed rel n tested → Named bytes rel n
 unfolding allowed
-judged-named bytes rel n rows whole e =
+judged-named bytes rel n tested whole e =
     let f = failed-names 1 circuitWords (rowOf bytes) refl house-words in-order e in
     let first = first-cycle rel (f .cycle) (f .number) n (f .in-batch) (f .batch-row) in
     let place = subst (λ (k : ℕ). found circuitWords rel k ≡ At (f .start) (f .end)) (first .1) (f .place) in
@@ -62,14 +64,14 @@ judged-named bytes rel n rows whole e =
 
 verdictOf : CheckAnswer → Verdict
 verdictOf (Judged v) = v
-verdictOf (Refused r) = Accepted 0
+verdictOf (Refused r) = Accepted none
 
-pub named : (bytes : List ℕ) (rel : Relation) (n rows : ℕ) → rowChecked bytes ≡ Judged (Failed rel n rows) → Named bytes rel n
+pub named : (bytes : List ℕ) (rel : Relation) (n : ℕ) (tested : Counts) → rowChecked bytes ≡ Judged (Failed rel n tested) → Named bytes rel n
 unfolding rowChecked knownChecked verdictOf
-named bytes rel n rows e = by-test (eqb (length bytes) 65536) refl e
+named bytes rel n tested e = by-test (eqb (length bytes) 65536) refl e
   where
     by-test : (b : Bool) → eqb (length bytes) 65536 ≡ b
-        → cond b (knownChecked House 1 (rowOf bytes)) (Refused (no 2 0)) ≡ Judged (Failed rel n rows) → Named bytes rel n
+        → cond b (knownChecked House 1 (rowOf bytes)) (Refused (no 2 0)) ≡ Judged (Failed rel n tested) → Named bytes rel n
     by-test true t e =
-        judged-named bytes rel n rows (eqb-true (length bytes) 65536 t) (ap verdictOf (if-yes Refused _ (row-asked bytes) ∙ e))
+        judged-named bytes rel n tested (eqb-true (length bytes) 65536 t) (ap verdictOf (if-yes Refused _ (row-asked bytes) ∙ e))
     by-test false t e = let z : _≡_ {A = ℕ} 0 1 = cc in absurd (omega arith)

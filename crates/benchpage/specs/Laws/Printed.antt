@@ -5,6 +5,7 @@ use mathlib.Core.List.{List}
 use Prim.Native.Nat.{ℕ}
 use Rattle.layout.specs.declared.Refusal.{Refusal}
 use Rattle.circuit.specs.declared.Relation.{Relation}
+use Rattle.verdict.specs.declared.Counts.{Counts}
 use Rattle.verdict.specs.declared.Verdict.{Verdict}
 use Rattle.verdict.specs.declared.Verdict.the-variants.{Accepted, Failed}
 use Rattle.verdict.specs.declared.CheckAnswer.{CheckAnswer}
@@ -20,14 +21,14 @@ module _ (bytes : List ℕ) (a : CheckAnswer) (e : a ≡ rowChecked bytes) where
   unfolding printed
   refused-printed r h = ap answerLine h ∙ ap (answerPrinted (rowOf bytes)) (sym h ∙ e)
 
-  pub accepted-printed : (v : Verdict) (rows : ℕ) → a ≡ Judged v → v ≡ Accepted rows → verdictLine v ≡ printed bytes
+  pub accepted-printed : (v : Verdict) (tested : Counts) → a ≡ Judged v → v ≡ Accepted tested → verdictLine v ≡ printed bytes
   unfolding printed
-  accepted-printed v rows h k = ap verdictLine k ∙ ap (answerPrinted (rowOf bytes)) (sym (h ∙ ap Judged k) ∙ e)
+  accepted-printed v tested h k = ap verdictLine k ∙ ap (answerPrinted (rowOf bytes)) (sym (h ∙ ap Judged k) ∙ e)
 
-  pub failed-printed : (v : Verdict) (rel : Relation) (n rows : ℕ) → a ≡ Judged v → v ≡ Failed rel n rows
+  pub failed-printed : (v : Verdict) (rel : Relation) (n : ℕ) (tested : Counts) → a ≡ Judged v → v ≡ Failed rel n tested
       → withLineEnds (pagesOf (rowOf bytes) rel n) ≡ printed bytes
   unfolding printed
-  failed-printed v rel n rows h k = ap (answerPrinted (rowOf bytes)) (sym (h ∙ ap Judged k) ∙ e)
+  failed-printed v rel n tested h k = ap (answerPrinted (rowOf bytes)) (sym (h ∙ ap Judged k) ∙ e)
 
-  pub failed-named : (v : Verdict) (rel : Relation) (n rows : ℕ) → a ≡ Judged v → v ≡ Failed rel n rows → Named bytes rel n
-  failed-named v rel n rows h k = named bytes rel n rows (sym e ∙ h ∙ ap Judged k)
+  pub failed-named : (v : Verdict) (rel : Relation) (n : ℕ) (tested : Counts) → a ≡ Judged v → v ≡ Failed rel n tested → Named bytes rel n
+  failed-named v rel n tested h k = named bytes rel n tested (sym e ∙ h ∙ ap Judged k)

@@ -21,6 +21,7 @@ use Rattle.verdict.specs.declared.Verdict.the-variants.{Accepted}
 use Rattle.verdict.specs.declared.CheckAnswer.the-variants.{Judged}
 use Rattle.verdict.specs.Row.{elementAt}
 use Rattle.verdict.specs.OverBits.{sumBits}
+use Rattle.verdict.specs.Counts.{counts, rows, countsOf}
 use Rattle.verdict.specs.Check.{checked}
 use Rattle.verdict.specs.Sheet.{oneRow}
 use Rattle.step.specs.Derived.{derived}
@@ -53,16 +54,20 @@ two-64 : element (2 ^ 64) ≡ ofWords 0 1
 two-64 = spelled 0 1 (lit< tt) (lit< tt)
 
 -- the filler's row is the one that it leaves
-as-called : {row : List ℕ} {v : Verdict} → Gives row v → Filled row v
-as-called {v = v} g =
+as-called : {row : List ℕ} {sum : ℕ} {v : Verdict} → rows (countsOf v) ≡ sum → Gives row v → Filled row sum v
+as-called {v = v} e g =
     record {
       fill = ap (λ (k : Called). k .answer) (g .fill);
-      check = λ scratch room. ap (λ (k : Called). checked 1 circuitWords (k .batch) scratch) (g .fill) ∙ g .check scratch room;
+      check =
+          record {
+            rows-are = e;
+            check = λ scratch room. ap (λ (k : Called). checked 1 circuitWords (k .batch) scratch) (g .fill) ∙ g .check scratch room;
+          };
       fill-check = filled-and-judged g ∙ ap (λ (k : Called). record { answer = Judged v; batch = k .batch }) (sym (g .fill));
     }
 
 -- P6's row, and the computed tests of its columns
-p6-gives : Gives oneRow (Accepted 514)
+p6-gives : Gives oneRow (Accepted (counts 483 31))
 unfolding has val conditions byteOf
 p6-gives = accepted _ 0 _ holding-oneRow (fits _ _ refl) (all-true _ _ .0 refl)
 
@@ -81,20 +86,20 @@ bench-sheet =
       p1 = ap₂ product two-127 (element-word (lit< tt)) ∙ field.sheet-holds .0 ∙ sym (element-word (lit< tt));
       p2 = ap₂ product two-64 two-64 ∙ field.sheet-holds .1 .0 ∙ sym (element-word (lit< tt));
       p3 = ap₂ product two-127 two-127 ∙ field.sheet-holds .1 .1 .0;
-      p4 = verdict.p4;
-      p5 = verdict.p5;
-      p6 = as-called p6-gives;
+      p4 = record { rows-are = refl; check = verdict.p4 };
+      p5 = record { rows-are = refl; check = verdict.p5 };
+      p6 = as-called refl p6-gives;
       p6-listed = listed-derived p6Ones ones-derived;
       p6-derived = λ c d. ap (λ (k : Called). elementAt (k .batch) c) (p6-gives .fill) ∙ derived-ones p6Ones ones-derived ones-solve c d;
-      p7-store = as-called (address-fails _ 0 _ (with-ones _ refl) (fits _ _ refl) refl refl);
-      p7-load-store = as-called (accepted _ 0 _ (with-ones _ refl) (fits _ _ refl) (all-true _ _ .0 refl));
-      p8-alu-0 = as-called (accepted _ 0 _ (with-ones _ refl) (fits _ _ refl) (all-true _ _ .0 refl));
-      p8-alu-1 = as-called (sum-fails _ 0 _ (with-ones _ refl) (fits _ _ refl) refl refl refl refl refl);
+      p7-store = as-called refl (address-fails _ 0 _ (with-ones _ refl) (fits _ _ refl) refl refl);
+      p7-load-store = as-called refl (accepted _ 0 _ (with-ones _ refl) (fits _ _ refl) (all-true _ _ .0 refl));
+      p8-alu-0 = as-called refl (accepted _ 0 _ (with-ones _ refl) (fits _ _ refl) (all-true _ _ .0 refl));
+      p8-alu-1 = as-called refl (sum-fails _ 0 _ (with-ones _ refl) (fits _ _ refl) refl refl refl refl refl);
       p9-output-5 =
-          as-called
+          as-called refl
           (accepted _ 5 _ (with-output _ refl 5) (fits _ _ refl)
           (all-true _ _ .0 (ap (λ (k : Bool). k && true) (same-self (ofWords 5 0)))));
-      p9-output-6 = as-called (output-fails _ 6 _ (with-output _ refl 6) (fits _ _ refl) refl refl refl refl refl (λ e. omega arith));
+      p9-output-6 = as-called refl (output-fails _ 6 _ (with-output _ refl 6) (fits _ _ refl) refl refl refl refl refl (λ e. omega arith));
       p10-blt = witness.p10 .blt;
       p10-bltu = witness.p10 .bltu;
       p10-bge = witness.p10 .bge;

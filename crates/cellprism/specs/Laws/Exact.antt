@@ -1,4 +1,4 @@
--- The answer's word loses nothing but the count of a failure.
+-- The answer's word loses nothing but the counts of a failure.
 -- Assumes nothing.
 use mathlib.Core.Path.{_≡_, refl, sym, ap, subst, _∙_}
 use mathlib.Core.Bool.{Bool, true, false, cond, _&&_}
@@ -13,16 +13,18 @@ use Rattle.base.specs.Laws.Tests.{both}
 use Rattle.layout.specs.Batch.{ROW-WORDS}
 use Rattle.layout.specs.Questions.{no}
 use Rattle.layout.specs.Laws.Questions.{if-yes}
-use Rattle.circuit.specs.Rows.{Row, numbered}
+use Rattle.circuit.specs.Rows.{Row, numbered, ofRelation}
 use Rattle.circuit.specs.Circuit.{binFamilies, fldFamilies, circuitRows, circuitWords}
 use Rattle.circuit.specs.Parse.{rowsOf}
-use Rattle.circuit.specs.Laws.House.{words-read, counts}
+use Rattle.circuit.specs.Laws.House.{words-read}
 use Rattle.verdict.specs.declared.CheckAnswer.the-variants.{Refused}
 use Rattle.verdict.specs.Row.{cycleOf}
 use Rattle.strict.specs.declared.Known.the-variants.{House}
-use Rattle.verdict.specs.Check.{Constraint, ofRelation, constraints, met, run, judged, knownChecked}
+use Rattle.verdict.specs.Counts.{counts, none, rows}
+use Rattle.verdict.specs.Check.{Constraint, constraints, met, run, judged, knownChecked}
 use Rattle.verdict.specs.Laws.Run.{Outcome, all-met, one-fails, outcome}
-use Rattle.verdict.specs.Laws.Verdicts.{constraint-count}
+use Rattle.verdict.specs.Laws.Counts.{plus, none-plus, rows-counted, tally, rows-tally, tally-all}
+use Rattle.verdict.specs.Laws.Known.{every-known}
 use Rattle.cellprism.specs.Bytes.{wordsOf}
 use Rattle.cellprism.specs.Answer.{rowChecked}
 use Rattle.cellprism.specs.Exact.{batchRowOf, Small, Exact}
@@ -44,7 +46,7 @@ row-fits (x ∷ xs) ys k h = row-fits xs ys k (both (ltb (batchRowOf x) 512) (ro
 
 judged-small : (batch : List ℕ) → Small (judged 1 circuitWords batch)
 unfolding judged
-judged-small batch = go (outcome test ks 0)
+judged-small batch = go (outcome test ks none)
   where
     test : Constraint → Bool
     test = met (cycleOf 1 batch)
@@ -55,15 +57,25 @@ judged-small batch = go (outcome test ks 0)
     fit : rowsFit ks ≡ true
     fit = ap (λ (rs : List Row). rowsFit (constraints 1 rs)) words-read ∙ house-fits
 
-    few : length ks ≡ 514
-    few = omega (arith, constraint-count 1 (rowsOf circuitWords), ap length words-read, counts .rows)
+    every : tally ks ≡ counts 483 31
+    every = tally-all 1 (rowsOf circuitWords) ∙ every-known House 1
 
-    go : Outcome test 0 ks (run test 0 ks) → Small (run test 0 ks)
-    go (all-met p e) = subst Small (sym e) (omega (arith, few))
+    few : length ks ≡ 514
+    few = sym (rows-tally ks) ∙ ap rows every
+
+    go : Outcome test none ks (run test none ks) → Small (run test none ks)
+    go (all-met p e) = subst Small (sym e) (none-plus (tally ks) ∙ every)
     go (one-fails f) =
         subst Small (sym (f .says)) (
           row-fits (f .earlier) (f .later) (f .first) (ap rowsFit (sym (f .order)) ∙ fit),
-          omega (arith, few, ap length (f .order), length-append (f .earlier) (f .first ∷ f .later)),
+          omega (
+            arith,
+            few,
+            ap length (f .order),
+            length-append (f .earlier) (f .first ∷ f .later),
+            rows-counted (f .first .row .relation) (plus none (tally (f .earlier))),
+            rows-tally (f .earlier),
+          ),
         )
 
 pub exact : (bytes : List ℕ) → Exact (rowChecked bytes)

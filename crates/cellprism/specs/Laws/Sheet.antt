@@ -13,6 +13,7 @@ use Rattle.layout.specs.Batch.{ROW-WORDS}
 use Rattle.circuit.specs.declared.Relation.the-variants.{Bin}
 use Rattle.verdict.specs.declared.Verdict.the-variants.{Accepted, Failed}
 use Rattle.verdict.specs.declared.CheckAnswer.the-variants.{Judged, Refused}
+use Rattle.verdict.specs.Counts.{counts}
 use Rattle.verdict.specs.Sheet.{oneRow}
 use Rattle.verdict.specs.Laws.Sheet.{zeros-accepted, one-judged}
 use Rattle.cellprism.specs.Answer.{rowChecked, answerWord}
@@ -39,7 +40,7 @@ bytes-of-zeros (suc n) =
     let e : 8 + 8 * n ≡ 8 * suc n = omega arith in
     ap (λ bs. replicate 8 0 ++ bs) (bytes-of-zeros n) ∙ replicate-append-replicate 8 (8 * n) 0 ∙ ap (λ k. replicate k 0) e
 
-pub zero-bytes : rowChecked (replicate 65536 0) ≡ Judged (Accepted 514)
+pub zero-bytes : rowChecked (replicate 65536 0) ≡ Judged (Accepted (counts 483 31))
 zero-bytes =
     ap rowChecked (sym (bytes-of-zeros ROW-WORDS))
     ∙ row-judged (replicate ROW-WORDS 0) (zeros-fit ROW-WORDS) (length-replicate {A = ℕ} ROW-WORDS 0)
@@ -61,7 +62,7 @@ bytes-of-one (suc n) (suc i) =
     let e : suc (suc (suc (suc (suc (suc (suc (suc (8 * i)))))))) ≡ 8 * suc i = omega arith in
     ap (λ bs. replicate 8 0 ++ bs) (bytes-of-one n i) ∙ ap (λ k. set (replicate 8 0 ++ bytesOf (replicate n 0)) k 1) e
 
-pub one-column : rowChecked (set (replicate 65536 0) 32768 1) ≡ Judged (Failed Bin 263 264)
+pub one-column : rowChecked (set (replicate 65536 0) 32768 1) ≡ Judged (Failed Bin 263 (counts 264 0))
 one-column =
     ap (λ bytes. rowChecked (set bytes 32768 1)) (sym (bytes-of-zeros ROW-WORDS)) ∙ ap rowChecked (sym (bytes-of-one ROW-WORDS 4096))
     ∙ row-judged oneRow (one-fits ROW-WORDS 4096)

@@ -9,7 +9,7 @@ use Rattle.circuit.specs.Rows.{numbered, sideWords, encode}
 use Rattle.circuit.specs.Circuit.{binFamilies, fldFamilies, circuitRows, circuitWords}
 use Rattle.circuit.specs.Parse.{parse, rowsOf}
 use Rattle.circuit.specs.Valid.{afterMark, afterTerm, afterWord, validFrom, validated}
-use Rattle.circuit.specs.House.{startsFrom, starts, isZero, overSides, Counts, zeros, P11}
+use Rattle.circuit.specs.House.{startsFrom, starts, isZero, overSides, HouseCounts, zeros, P11}
 
 -- reading the words back gives the rows
 pub words-read : rowsOf circuitWords ≡ circuitRows
@@ -29,7 +29,7 @@ pub family-starts :
 unfolding starts startsFrom binFamilies fldFamilies from fromEach
 family-starts = (refl, refl)
 
-pub counts : Counts
+pub counts : HouseCounts
 unfolding overSides zeros isZero circuitWords circuitRows binFamilies fldFamilies from fromEach joined numbered sideWords encode
 counts = record { bin-rows = refl; bin-terms = refl; fld-rows = refl; fld-terms = refl; zero-terms = refl; rows = refl; words = refl }
 

@@ -1,22 +1,16 @@
--- `judge::all_rows` meets its contract: the rows of so few cycles are counted in a word.
+-- `judge::all_rows` meets its contract: both counts are those of every row.
 -- Assumes nothing.
-use mathlib.Core.Path.{ap}
-use Prim.Native.Nat.{ℕ, _*_}
-use native.Mathlib.Omega.{arith}
+use mathlib.Core.Path.{ap₂}
+use Prim.Native.Nat.{ℕ}
 use Rattle.verdict.specs.declared.Verdict.the-variants.{Accepted}
 use Rattle.verdict.specs.declared.CheckAnswer.the-variants.{Judged}
-use Rattle.judge.specs.Laws.Short.{rows-room}
+use Rattle.verdict.specs.Counts.{counts}
 use borrow.Author.Needs.{needs}
 use Rattle.judge.proofs.all_rows.Statement.{statement}
 use Rattle.judge.proofs.all_rows.Tie as tie
 
-mul-rows : tie.Need-mul-rows
-mul-rows c =
-    let a = c .before in
-    omega (arith, ap (λ (n : ℕ). n * a .args .cpi) (c .rows-each .ensures), rows-room (a .args .which) (a .args .cpi) (a .pre))
-
 returns : tie.Need-returns
-returns c = ap (λ (n : ℕ). Judged (Accepted (n * c .before .args .cpi))) (c .rows-each .ensures)
+returns c = ap₂ (λ (b f : ℕ). Judged (Accepted (counts b f))) (c .before .rows-in .ensures) (c .rows-in2 .ensures)
 
 pub all-rows-spec : {M : Type 1} → statement M
-all-rows-spec = tie.close (tie.spec (λ c κs. search needs) mul-rows returns)
+all-rows-spec = tie.close (tie.spec (λ c κs. search needs) (λ c κs. search needs) returns)

@@ -4,7 +4,7 @@
 use mathlib.Core.Path.{_≡_, refl}
 use mathlib.Core.Bool.{Bool, true, false}
 use mathlib.Core.List.{List, [], _∷_, _++_}
-use Prim.Native.Nat.{ℕ, _*_, _-_, _/_, _%_, _^_, _<_}
+use Prim.Native.Nat.{ℕ, _-_, _/_, _%_, _^_, _<_}
 use lib.ListN.{getD, set, replicate}
 use Rattle.base.specs.Bits.{val, _⊻_, bitAt}
 use Rattle.base.specs.Lists.{joined, from, fromEach}
@@ -15,9 +15,10 @@ use Rattle.circuit.specs.Rows.{numbered}
 use Rattle.circuit.specs.Circuit.{binFamilies, fldFamilies, circuitRows}
 use Rattle.strict.specs.declared.Known.{Known}
 use Rattle.strict.specs.declared.Known.the-variants.{House, Strict}
-use Rattle.strict.specs.Known.{listingOf, rowsEach}
+use Rattle.strict.specs.Known.{listingOf}
 use Rattle.verdict.specs.declared.Verdict.the-variants.{Accepted}
 use Rattle.verdict.specs.Named.{named as namedIn}
+use Rattle.verdict.specs.Counts.{everyRowOf}
 use Rattle.verdict.specs.Check.{judged}
 use Rattle.step.specs.Filling.{filled}
 use Rattle.step.specs.Sheet.{has}
@@ -108,14 +109,14 @@ module _ (k : Known) (cpi : ℕ) (some : 0 < cpi) where
   pub record BatchExamples : Type 0 where
     pub over : OverBits cpi (filled cpi (idle cpi))
     pub yes : JudgedYes k cpi (filled cpi (idle cpi))
-    pub accepted : allowed cpi ≡ true → judged cpi (listingOf k) (filled cpi (idle cpi)) ≡ Accepted (rowsEach k * cpi)
+    pub accepted : allowed cpi ≡ true → judged cpi (listingOf k) (filled cpi (idle cpi)) ≡ Accepted (everyRowOf k cpi)
     pub short : allowed cpi ≡ true → shortYes k cpi (filled cpi (idle cpi)) ≡ true
 
   pub batch-examples : BatchExamples
   batch-examples =
       let over = filled-over cpi some (idle cpi) (premises-of cpi some (λ d c. false)) in
       let yes = judges-filled cpi some (idle cpi) (premises-of cpi some (λ d c. false)) k .1 (idle-meets k cpi some) in
-      let accepted : allowed cpi ≡ true → judged cpi (listingOf k) (filled cpi (idle cpi)) ≡ Accepted (rowsEach k * cpi) =
+      let accepted : allowed cpi ≡ true → judged cpi (listingOf k) (filled cpi (idle cpi)) ≡ Accepted (everyRowOf k cpi) =
       λ size. judges k cpi size (filled cpi (idle cpi)) over .0 yes in
       record {
         over = over;

@@ -13,12 +13,12 @@ use Rattle.layout.specs.Questions.{no, Called}
 use Rattle.layout.specs.Laws.Scratch.{someScratch, some-fits}
 use Rattle.layout.specs.Laws.Sizes.{allowed-range}
 use Rattle.strict.specs.declared.Known.{Known}
-use Rattle.strict.specs.declared.Known.the-variants.{House, Strict}
-use Rattle.strict.specs.Known.{rowsEach}
+use Rattle.strict.specs.declared.Known.the-variants.{House}
 use Rattle.verdict.specs.declared.Verdict.{Verdict}
 use Rattle.verdict.specs.declared.Verdict.the-variants.{Accepted}
 use Rattle.verdict.specs.declared.CheckAnswer.{CheckAnswer}
 use Rattle.verdict.specs.declared.CheckAnswer.the-variants.{Judged, Refused}
+use Rattle.verdict.specs.Counts.{everyRowOf}
 use Rattle.verdict.specs.Check.{Checked, knownChecked}
 use Rattle.verdict.specs.Laws.Agree.{known-agrees}
 use Rattle.step.specs.Derived.{derived}
@@ -39,7 +39,7 @@ abbrev pub RefusedAs : Known → ℕ → ℕ → ℕ → List ℕ → Type 0
 RefusedAs k cpi number place batch = fillChecked k cpi batch ≡ record { answer = Refused (no number place); batch = batch }
 
 pub record OfSize (k : Known) (cpi : ℕ) : Type 0 where
-  pub accepted : fillChecked k cpi (idle cpi) ≡ record { answer = Judged (Accepted (rowsEach k * cpi)); batch = filled cpi (idle cpi) }
+  pub accepted : fillChecked k cpi (idle cpi) ≡ record { answer = Judged (Accepted (everyRowOf k cpi)); batch = filled cpi (idle cpi) }
   -- in cycle d condition 2 is not met
   pub failed : (d : ℕ) → d < cpi → fails (fillChecked k cpi (batchOf cpi (shiftsIn d)) .answer) ≡ true
   -- questions 11 and 12: a given column that is no bit, whatever bits stand elsewhere; the one column 0

@@ -5,7 +5,7 @@ use mathlib.Core.Logic.{_↔_}
 use mathlib.Core.Bool.{Bool, true}
 use mathlib.Core.List.{List}
 use Prim.Native.Nat.{ℕ, _+_, _*_, _/_, _%_, _^_, _≤_, _<_}
-use native.Mathlib.Nat.{mul-comm, mod-lt, div-add-mod', div-lt-iff-lt-mul}
+use native.Mathlib.Nat.{mod-lt, div-add-mod', div-lt-iff-lt-mul}
 use native.Mathlib.Decide.{decLt}
 use native.Mathlib.Omega.{arith}
 use lib.Arith.{digits-lt}
@@ -23,11 +23,12 @@ use Rattle.layout.specs.Batch.{allowed, batchWords}
 use Rattle.layout.specs.Laws.Sizes.{allowed-range}
 use Rattle.layout.specs.Laws.Mapping.{witness-column}
 use Rattle.strict.specs.declared.Known.{Known}
-use Rattle.strict.specs.Known.{listingOf, furtherRows, rowsEach}
-use Rattle.strict.specs.Laws.Known.{row-count}
+use Rattle.strict.specs.Known.{listingOf, furtherRows}
 use Rattle.verdict.specs.declared.Verdict.the-variants.{Accepted}
 use Rattle.verdict.specs.Row.{elementAt, cycleOf, holds, bitsOf}
+use Rattle.verdict.specs.Counts.{everyRowOf}
 use Rattle.verdict.specs.Check.{judged}
+use Rattle.verdict.specs.Laws.Known.{every-known}
 use Rattle.verdict.specs.Laws.Verdicts.{EveryRowHolds}
 use Rattle.step.specs.Step.{Step}
 use Rattle.step.specs.Strict.{ConditionsOf}
@@ -132,7 +133,7 @@ module _ (k : Known) (cpi : ℕ) (size : allowed cpi ≡ true) (batch : List ℕ
       is-filling cpi (fillerBits cpi batch) batch batch (o .words) itself
       (λ x l e. is-bit x l ∙ ap (λ (b : Bool). ofBit b) (at-column x l ∙ h (x % cpi) (mod-lt x some) (x / cpi) e))
 
-  yes-accepts : JudgedYes k cpi batch → judged cpi (listingOf k) batch ≡ Accepted (rowsEach k * cpi)
+  yes-accepts : JudgedYes k cpi batch → judged cpi (listingOf k) batch ≡ Accepted (everyRowOf k cpi)
   yes-accepts y =
       let e = own-filling (λ d l. exactly d l .0 (y d l) .1) in
       verdicts.accepts cpi (listingOf k) batch
@@ -141,7 +142,7 @@ module _ (k : Known) (cpi : ℕ) (size : allowed cpi ≡ true) (batch : List ℕ
         subst (λ (u : List ℕ). RowsHold (cycleOf cpi u d)) (sym e) (rows-or-conditions cpi some batch premises d l .1 (met .0)),
         met .1,
       ))
-      ∙ ap Accepted (ap (_*_ cpi) (row-count k) ∙ mul-comm cpi (rowsEach k))
+      ∙ ap Accepted (every-known k cpi)
 
   -- ---- and back: where every row holds, the determining rows do
 
@@ -168,5 +169,5 @@ module _ (k : Known) (cpi : ℕ) (size : allowed cpi ≡ true) (batch : List ℕ
     judged-again : JudgedYes k cpi batch
     judged-again d l = exactly d l .1 (conditions-are d l .1 (meets d l, all-rows d l .1), derived-filled d l)
 
-  pub judges : JudgedYes k cpi batch ↔ (judged cpi (listingOf k) batch ≡ Accepted (rowsEach k * cpi))
-  judges = (yes-accepts, λ e. judged-again (verdicts.accepted cpi (listingOf k) batch (rowsEach k * cpi) e))
+  pub judges : JudgedYes k cpi batch ↔ (judged cpi (listingOf k) batch ≡ Accepted (everyRowOf k cpi))
+  judges = (yes-accepts, λ e. judged-again (verdicts.accepted cpi (listingOf k) batch (everyRowOf k cpi) e))

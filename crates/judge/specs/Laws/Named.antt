@@ -30,11 +30,12 @@ use Rattle.circuit.specs.Laws.Families.{all-numbered}
 use Rattle.strict.specs.declared.Known.{Known}
 use Rattle.strict.specs.declared.Known.the-variants.{House, Strict}
 use Rattle.strict.specs.Rows.{flagRows, rowsWith}
-use Rattle.strict.specs.Known.{listingOf, furtherRows, rowsEach}
+use Rattle.strict.specs.Known.{listingOf, furtherRows}
 use Rattle.strict.specs.Laws.Known.{rows-are}
 use Rattle.verdict.specs.declared.Verdict.the-variants.{Accepted}
 use Rattle.verdict.specs.Row.{elementAt, cycleOf, holds, bitsOf}
 use Rattle.verdict.specs.Named.{namedBy, named as namedIn}
+use Rattle.verdict.specs.Counts.{none, everyRowOf}
 use Rattle.verdict.specs.Check.{met, constraints, judged}
 use Rattle.verdict.specs.Laws.Named.{holds-depends}
 use Rattle.verdict.specs.Laws.Run.{run-same}
@@ -190,7 +191,7 @@ module _ (k : Known) (cpi : ℕ) (size : allowed cpi ≡ true) (batch : List ℕ
   verdict-same : judged cpi (listingOf k) W ≡ judged cpi (listingOf k) batch
   unfolding judged
   verdict-same =
-      run-same (met (cycleOf cpi W)) (met (cycleOf cpi batch)) (constraints cpi (rowsOf (listingOf k))) 0
+      run-same (met (cycleOf cpi W)) (met (cycleOf cpi batch)) (constraints cpi (rowsOf (listingOf k))) none
       (every-constraint (λ c. met (cycleOf cpi W) c ≡ met (cycleOf cpi batch) c) cpi (rowsOf (listingOf k)) .1
       (λ d l.
       subst (λ (rs : List Row). All (λ r. holds (cycleOf cpi W d) (r .sides) ≡ holds (cycleOf cpi batch d) (r .sides)) rs) (sym (rows-are k))
@@ -201,7 +202,7 @@ module _ (k : Known) (cpi : ℕ) (size : allowed cpi ≡ true) (batch : List ℕ
       ≡ judgedCycle k (bitsOf cpi batch d) (cycleOf cpi batch d (ONE-COL + 1))
   judgement-same d l = cc (bits-same d l, public-cycle d (ONE-COL + 1) (omega arith))
 
-  pub judges-named : JudgedYes k cpi batch ↔ (judged cpi (listingOf k) batch ≡ Accepted (rowsEach k * cpi))
+  pub judges-named : JudgedYes k cpi batch ↔ (judged cpi (listingOf k) batch ≡ Accepted (everyRowOf k cpi))
   judges-named =
       let j = judges k cpi size W W-over in (
         λ y. sym verdict-same ∙ j .0 (λ d l. judgement-same d l ∙ y d l),

@@ -19,6 +19,8 @@ use Rattle.layout.specs.declared.Asked.the-variants.{Yes, No}
 use Rattle.layout.specs.Batch.{allowed, batchWords, batchAsked}
 use Rattle.layout.specs.Laws.Questions.{if-yes, batch-yes, yes-batch}
 use Rattle.layout.specs.Laws.Sizes.{allowed-range}
+use Rattle.circuit.specs.declared.Relation.{Relation}
+use Rattle.circuit.specs.declared.Relation.the-variants.{Bin, Fld}
 use Rattle.circuit.specs.Valid.{validated}
 use Rattle.strict.specs.declared.Known.{Known}
 use Rattle.strict.specs.declared.Known.the-variants.{House, Strict}
@@ -28,6 +30,7 @@ use Rattle.verdict.specs.declared.Verdict.{Verdict}
 use Rattle.verdict.specs.declared.Verdict.the-variants.{Accepted}
 use Rattle.verdict.specs.declared.CheckAnswer.the-variants.{Judged, Refused as NoCheck}
 use Rattle.verdict.specs.Row.{elementAt}
+use Rattle.verdict.specs.Counts.{everyRowOf}
 use Rattle.verdict.specs.Check.{Checked, after, asked, judged, checked, knownChecked}
 use Rattle.packed.specs.declared.Packing.{Packing}
 use Rattle.packed.specs.declared.Packing.the-variants.{Bits, NotBits, Refused}
@@ -72,7 +75,7 @@ packed-cycles k cpi some batch bits =
 
 -- a word of the code has 64 bits
 pub short-accepts : (k : Known) (cpi : ℕ) (batch : List ℕ) → ((i : ℕ) → getD batch i 0 < 2 ^ 64) → shortYes k cpi batch ≡ true
-    → judged cpi (listingOf k) batch ≡ Accepted (rowsEach k * cpi)
+    → judged cpi (listingOf k) batch ≡ Accepted (everyRowOf k cpi)
 short-accepts k cpi batch fit e = judges-named k cpi (size .0) batch named-bits .0 yes
   where
     p : Parts k cpi batch
@@ -99,7 +102,7 @@ short-accepts k cpi batch fit e = judges-named k cpi (size .0) batch named-bits 
 -- ---- and nothing is missed: of named columns that are bits it says yes exactly where the check accepts
 
 pub short-exactly : (k : Known) (cpi : ℕ) (batch : List ℕ) → allowed cpi ≡ true → NamedBits cpi batch → namedBits cpi batch ≡ true
-    → (shortYes k cpi batch ≡ true) ↔ (judged cpi (listingOf k) batch ≡ Accepted (rowsEach k * cpi))
+    → (shortYes k cpi batch ≡ true) ↔ (judged cpi (listingOf k) batch ≡ Accepted (everyRowOf k cpi))
 unfolding shortYes shortBits
 short-exactly k cpi batch size n bits = (
   short-accepts k cpi batch (n .fit),
@@ -111,7 +114,7 @@ short-exactly k cpi batch size n bits = (
 
 -- so over bits, whatever stands in columns that no row names
 pub short-over : (k : Known) (cpi : ℕ) (batch : List ℕ) → allowed cpi ≡ true → OverBits cpi batch
-    → (shortYes k cpi batch ≡ true) ↔ (judged cpi (listingOf k) batch ≡ Accepted (rowsEach k * cpi))
+    → (shortYes k cpi batch ≡ true) ↔ (judged cpi (listingOf k) batch ≡ Accepted (everyRowOf k cpi))
 unfolding namedBits
 short-over k cpi batch size o =
     short-exactly k cpi batch size (over-named cpi batch o)
@@ -124,13 +127,13 @@ short-over k cpi batch size o =
 
 module _ (k : Known) (cpi : ℕ) where
   pub known-short : (batch : List ℕ) → ((i : ℕ) → getD batch i 0 < 2 ^ 64) → shortYes k cpi batch ≡ true
-      → Judged (Accepted (rowsEach k * cpi)) ≡ knownChecked k cpi batch
+      → Judged (Accepted (everyRowOf k cpi)) ≡ knownChecked k cpi batch
   unfolding knownChecked
   known-short batch fit e =
       ap Judged (sym (short-accepts k cpi batch fit e)) ∙ if-yes NoCheck _ (parts k cpi batch e .asked)
 
   pub row-short : (listing batch scratch : List ℕ) → ((i : ℕ) → getD batch i 0 < 2 ^ 64) → ShortRow k cpi listing batch (length scratch)
-      → _≡_ {A = Checked} (after Yes (Accepted (rowsEach k * cpi)) scratch) (checked cpi listing batch scratch)
+      → _≡_ {A = Checked} (after Yes (Accepted (everyRowOf k cpi)) scratch) (checked cpi listing batch scratch)
   unfolding checked asked
   row-short listing batch scratch fit h =
       ap (λ (v : Verdict). after Yes v scratch)
@@ -138,13 +141,15 @@ module _ (k : Known) (cpi : ℕ) where
       ∙ ap (λ (q : Asked). after q (judged cpi listing batch) scratch)
       (sym (in-order k) ∙ ap validated (sym (h .known)) ∙ passed _ _ _ (h .scratch) ∙ if-yes No _ (parts k cpi batch (h .yes) .asked))
 
-  -- the count fits in a word
-  pub rows-room : cpi ≤ 256 → rowsEach k * cpi < 2 ^ 64
-  rows-room l = go k
+  -- a count fits in a word
+  pub rows-room : (rel : Relation) → cpi ≤ 256 → rowsEach k rel * cpi < 2 ^ 32
+  rows-room rel l = go k rel
     where
-      go : (j : Known) → rowsEach j * cpi < 2 ^ 64
-      go House = omega arith
-      go Strict = omega arith
+      go : (j : Known) (rel : Relation) → rowsEach j rel * cpi < 2 ^ 32
+      go House Bin = omega arith
+      go Strict Bin = omega arith
+      go House Fld = omega arith
+      go Strict Fld = omega arith
 
   pub short-few : (batch : List ℕ) → shortYes k cpi batch ≡ true → cpi ≤ 256
   short-few batch e = allowed-range cpi (batch-yes cpi (length batch) (parts k cpi batch e .asked) .0) .1

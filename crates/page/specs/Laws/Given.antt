@@ -18,9 +18,10 @@ use Rattle.circuit.specs.Words.{cleanOf, wordOf, markWord, termWord}
 use Rattle.circuit.specs.Parse.{parse}
 use Rattle.circuit.specs.Valid.{afterMark, afterTerm, afterWord, validFrom, validated}
 use Rattle.circuit.specs.Found.{until, rowAt, found}
-use Rattle.verdict.specs.declared.Verdict.the-variants.{Failed}
+use Rattle.verdict.specs.declared.Verdict.the-variants.{Accepted, Failed}
 use Rattle.verdict.specs.declared.CheckAnswer.the-variants.{Judged}
 use Rattle.verdict.specs.Row.{cycleOf}
+use Rattle.verdict.specs.Counts.{counts}
 use Rattle.page.specs.declared.BytesAnswer.the-variants.{Of, Refused}
 use Rattle.page.specs.Line.{answerLine}
 use Rattle.page.specs.Lines.{headLine, lineOf, termLine, rowLines}
@@ -53,8 +54,10 @@ pub record Given : Type 0 where
   pub bytes : bytesFor listing Bin 5 ≡ Of 3600
   pub no-row : bytesFor listing Fld 5 ≡ Refused (no 13 0)
   pub fld-head : headLine Fld 99 ≡ ascii "fld      99                                                 "
-  pub fld-line : answerLine (Judged (Failed Fld 1 485)) ≡ ascii "failed fld row=1 rows=485\n"
   pub no-order : bytesFor outOfOrder Bin 5 ≡ Refused (no 10 2)
+  -- the lines of a failure in fld, and of four cycles accepted
+  pub fld-line : answerLine (Judged (Failed Fld 1 (counts 483 2))) ≡ ascii "failed fld row=1 bin=483 fld=2\n"
+  pub four-line : answerLine (Judged (Accepted (counts 1932 124))) ≡ ascii "accepted bin=1932 fld=124\n"
   -- the call with its page lent; and with things wrong, of which the question that is asked first counts: its number, its place, and
   -- every byte as it came
   pub laid-out : laidOut 4 listing four Bin 5 3 (replicate 3600 7) .answer ≡ Yes
@@ -77,8 +80,9 @@ given =
       bytes = refl;
       no-row = refl;
       fld-head = refl;
-      fld-line = refl;
       no-order = refl;
+      fld-line = refl;
+      four-line = refl;
       laid-out = refl;
       size = refl;
       batch = refl;

@@ -1,8 +1,8 @@
--- The line of an answer has at most 62 bytes.
+-- The line of an answer has at most 86 bytes.
 -- Assumes nothing.
 use mathlib.Core.Path.{_≡_, refl}
 use mathlib.Core.List.{_++_}
-use Prim.Native.Nat.{ℕ, _+_, _≤_}
+use Prim.Native.Nat.{_≤_}
 use native.Mathlib.Omega.{arith}
 use lib.ListN.{length, length-append}
 use Rattle.base.specs.Text.{ascii}
@@ -10,39 +10,43 @@ use Rattle.text.specs.Digits.{decimal}
 use Rattle.text.specs.Laws.Decimal.{decimal-most}
 use Rattle.circuit.specs.declared.Relation.{Relation}
 use Rattle.circuit.specs.declared.Relation.the-variants.{Bin, Fld}
+use Rattle.verdict.specs.declared.Counts.{Counts}
 use Rattle.verdict.specs.declared.Verdict.{Verdict}
 use Rattle.verdict.specs.declared.Verdict.the-variants.{Accepted, Failed}
 use Rattle.verdict.specs.declared.CheckAnswer.{CheckAnswer}
 use Rattle.verdict.specs.declared.CheckAnswer.the-variants.{Judged, Refused}
-use Rattle.page.specs.Line.{failedText, rowsText, verdictLine, answerLine}
+use Rattle.page.specs.Line.{failedText, countsText, verdictLine, answerLine}
 
-rows-short : (rows : ℕ) → length (rowsText rows) ≤ 26
-rows-short rows =
+counts-short : (n : Counts) → length (countsText n) ≤ 50
+counts-short n =
     omega (
       arith,
-      length-append (ascii "rows=" ++ decimal rows) (ascii "\n"),
-      length-append (ascii "rows=") (decimal rows),
-      decimal-most 20 rows,
+      length-append (ascii "bin=" ++ decimal (n .bin) ++ ascii " fld=" ++ decimal (n .fld)) (ascii "\n"),
+      length-append (ascii "bin=" ++ decimal (n .bin) ++ ascii " fld=") (decimal (n .fld)),
+      length-append (ascii "bin=" ++ decimal (n .bin)) (ascii " fld="),
+      length-append (ascii "bin=") (decimal (n .bin)),
+      decimal-most 20 (n .bin),
+      decimal-most 20 (n .fld),
     )
 
 failed-length : (rel : Relation) → length (failedText rel) ≡ 15
 failed-length Bin = refl
 failed-length Fld = refl
 
-pub verdict-short : (v : Verdict) → length (verdictLine v) ≤ 62
-verdict-short (Accepted rows) = omega (arith, length-append (ascii "accepted ") (rowsText rows), rows-short rows)
-verdict-short (Failed rel n rows) =
+pub verdict-short : (v : Verdict) → length (verdictLine v) ≤ 86
+verdict-short (Accepted n) = omega (arith, length-append (ascii "accepted ") (countsText n), counts-short n)
+verdict-short (Failed rel row n) =
     omega (
       arith,
-      length-append (failedText rel ++ decimal n ++ ascii " ") (rowsText rows),
-      length-append (failedText rel ++ decimal n) (ascii " "),
-      length-append (failedText rel) (decimal n),
+      length-append (failedText rel ++ decimal row ++ ascii " ") (countsText n),
+      length-append (failedText rel ++ decimal row) (ascii " "),
+      length-append (failedText rel) (decimal row),
       failed-length rel,
-      decimal-most 20 n,
-      rows-short rows,
+      decimal-most 20 row,
+      counts-short n,
     )
 
-pub line-short : (a : CheckAnswer) → length (answerLine a) ≤ 62
+pub line-short : (a : CheckAnswer) → length (answerLine a) ≤ 86
 line-short (Judged v) = verdict-short v
 line-short (Refused r) =
     omega (

@@ -19,10 +19,12 @@ use Rattle.circuit.specs.Rows.{Sides}
 use Rattle.circuit.specs.Valid.{validated}
 use Rattle.circuit.specs.Found.{found}
 use Rattle.circuit.specs.Reader.{rowOf, rowRead}
+use Rattle.verdict.specs.declared.Counts.{Counts}
 use Rattle.verdict.specs.declared.Verdict.{Verdict}
 use Rattle.verdict.specs.declared.Verdict.the-variants.{Accepted, Failed}
 use Rattle.verdict.specs.declared.CheckAnswer.{CheckAnswer}
 use Rattle.verdict.specs.declared.CheckAnswer.the-variants.{Judged, Refused}
+use Rattle.verdict.specs.Counts.{none}
 use Rattle.verdict.specs.Check.{judged, asked, after, checked}
 use Rattle.verdict.specs.Laws.Shown.{Names, failed-names}
 use Rattle.page.specs.declared.BytesAnswer.the-variants.{Of}
@@ -31,8 +33,8 @@ use Rattle.page.specs.Pages.{laid, notLaid, pageBytes, pages, lineCount,
 use Rattle.page.specs.Paper.{RowShown}
 
 module _ (cpi : ℕ) (listing batch : List ℕ) (fit : (i : ℕ) → getD listing i 0 < 2 ^ 32) where
-  judged-shown : {rel : Relation} {b rows : ℕ} → allowed cpi ≡ true → length batch ≡ batchWords cpi → validated listing ≡ Yes
-      → judged cpi listing batch ≡ Failed rel b rows → RowShown cpi listing batch rel b
+  judged-shown : {rel : Relation} {b : ℕ} {n : Counts} → allowed cpi ≡ true → length batch ≡ batchWords cpi → validated listing ≡ Yes
+      → judged cpi listing batch ≡ Failed rel b n → RowShown cpi listing batch rel b
   unfolding bytesFor laidOut laidAt rowLines
   judged-shown {rel} {b} size words valid e =
       record {
@@ -65,18 +67,17 @@ module _ (cpi : ℕ) (listing batch : List ℕ) (fit : (i : ℕ) → getD listin
       (batch-yes cpi words (q .0), answered (scratchFits room) (validated listing) (no 5 0) (q .1) .1)
 
   -- whatever the check was lent: the verdict that it answers is one of these
-  pub verdict-shown : (scratch : List ℕ) {rel : Relation} {b rows : ℕ} → checked cpi listing batch scratch .answer ≡ Judged
-      (Failed rel b rows)
-      → RowShown cpi listing batch rel b
+  pub verdict-shown : (scratch : List ℕ) {rel : Relation} {b : ℕ} {n : Counts}
+      → checked cpi listing batch scratch .answer ≡ Judged (Failed rel b n) → RowShown cpi listing batch rel b
   unfolding checked
-  verdict-shown scratch {rel} {b} {rows} = by-asked (asked cpi listing (length batch) (length scratch)) refl
+  verdict-shown scratch {rel} {b} {n} = by-asked (asked cpi listing (length batch) (length scratch)) refl
     where
       told : CheckAnswer → Verdict
       told (Judged v) = v
-      told (Refused r) = Accepted 0
+      told (Refused r) = Accepted none
 
       by-asked : (a : Asked) → asked cpi listing (length batch) (length scratch) ≡ a
-          → after a (judged cpi listing batch) scratch .answer ≡ Judged (Failed rel b rows) → RowShown cpi listing batch rel b
+          → after a (judged cpi listing batch) scratch .answer ≡ Judged (Failed rel b n) → RowShown cpi listing batch rel b
       by-asked Yes e h =
           let q = asked-yes (length batch) (length scratch) e in judged-shown (q .0 .0) (q .0 .1) (q .1) (ap told h)
       by-asked (No r) e h = let z : _≡_ {A = ℕ} 0 1 = cc in absurd (omega arith)

@@ -12,9 +12,11 @@ use Rattle.layout.specs.Questions.{no}
 use Rattle.circuit.specs.declared.Relation.{Relation}
 use Rattle.circuit.specs.declared.Relation.the-variants.{Bin}
 use Rattle.circuit.specs.Circuit.{circuitWords}
+use Rattle.verdict.specs.declared.Counts.{Counts}
 use Rattle.verdict.specs.declared.Verdict.the-variants.{Accepted, Failed}
 use Rattle.verdict.specs.declared.CheckAnswer.{CheckAnswer}
 use Rattle.verdict.specs.declared.CheckAnswer.the-variants.{Judged, Refused}
+use Rattle.verdict.specs.Counts.{counts}
 use Rattle.verdict.specs.Check.{asked, checked}
 use Rattle.verdict.specs.Sheet.{oneRow}
 use Rattle.verdict.specs.Laws.Sheet.{p4, p5}
@@ -33,13 +35,13 @@ told e = record { accepts-is = ap accepts e; fails-is = ap fails e }
 pub record Answers (cpi : ℕ) (listing batch scratch : List ℕ) : Type 0 where
   pub refused : (r : Refusal) → checked cpi listing batch scratch .answer ≡ Refused r
       → Told (checked cpi listing batch scratch .answer) false false
-  pub accepted : (rows : ℕ) → checked cpi listing batch scratch .answer ≡ Judged (Accepted rows)
+  pub accepted : (n : Counts) → checked cpi listing batch scratch .answer ≡ Judged (Accepted n)
       → Told (checked cpi listing batch scratch .answer) true false
-  pub failed : (relation : Relation) (row rows : ℕ) → checked cpi listing batch scratch .answer ≡ Judged (Failed relation row rows)
+  pub failed : (relation : Relation) (row : ℕ) (n : Counts) → checked cpi listing batch scratch .answer ≡ Judged (Failed relation row n)
       → Told (checked cpi listing batch scratch .answer) false true
 
 pub answers : (cpi : ℕ) (listing batch scratch : List ℕ) → Answers cpi listing batch scratch
-answers cpi listing batch scratch = record { refused = λ r. told; accepted = λ rows. told; failed = λ relation row rows. told }
+answers cpi listing batch scratch = record { refused = λ r. told; accepted = λ n. told; failed = λ relation row n. told }
 
 -- ---- given calls
 
@@ -53,8 +55,8 @@ pub record GivenCalls (scratch : List ℕ) : Type 0 where
   pub no-size : GivenCall 3 [] scratch (Refused (no 1 0)) false false
   pub no-words : GivenCall 1 [] scratch (Refused (no 2 0)) false false
   -- the row of zeros, and that with 1 in the one column alone
-  pub zero-row : GivenCall 1 (replicate ROW-WORDS 0) scratch (Judged (Accepted 514)) true false
-  pub one-row : GivenCall 1 oneRow scratch (Judged (Failed Bin 263 264)) false true
+  pub zero-row : GivenCall 1 (replicate ROW-WORDS 0) scratch (Judged (Accepted (counts 483 31))) true false
+  pub one-row : GivenCall 1 oneRow scratch (Judged (Failed Bin 263 (counts 264 0))) false true
 
 pub given-calls : (scratch : List ℕ) → scratchFits (length scratch) ≡ true → GivenCalls scratch
 unfolding checked asked batchAsked allowed
@@ -64,8 +66,8 @@ given-calls scratch room =
       no-words = record { answer-is = refl; told-is = answers 1 circuitWords [] scratch .refused (no 2 0) refl };
       zero-row =
           let e = ap (λ c. c .answer) (p4 scratch room) in
-          record { answer-is = e; told-is = answers 1 circuitWords (replicate ROW-WORDS 0) scratch .accepted 514 e };
+          record { answer-is = e; told-is = answers 1 circuitWords (replicate ROW-WORDS 0) scratch .accepted (counts 483 31) e };
       one-row =
           let e = ap (λ c. c .answer) (p5 scratch room) in
-          record { answer-is = e; told-is = answers 1 circuitWords oneRow scratch .failed Bin 263 264 e };
+          record { answer-is = e; told-is = answers 1 circuitWords oneRow scratch .failed Bin 263 (counts 264 0) e };
     }

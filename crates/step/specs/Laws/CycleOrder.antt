@@ -1,9 +1,9 @@
 -- The constraints of cycle 0 in their order, and where the rows of RAM address, of the adder and of the public output stand among them.
 -- Assumes nothing.
-use mathlib.Core.Path.{_≡_, refl, ap}
+use mathlib.Core.Path.{_≡_, refl}
 use mathlib.Core.Bool.{true}
 use mathlib.Core.List.{List, [], _∷_, _++_, map}
-use Prim.Native.Nat.{ℕ, suc}
+use Prim.Native.Nat.{ℕ}
 use lib.ListN.{length, drop}
 use Rattle.base.specs.Lists.{joined, All, from, fromEach}
 use Rattle.base.specs.Laws.Lists.{all-map}
@@ -11,11 +11,13 @@ use Rattle.field.specs.declared.Gf128.{Gf128}
 use Rattle.layout.specs.Columns.{RD, ALU, WNL}
 use Rattle.circuit.specs.declared.Relation.{Relation}
 use Rattle.circuit.specs.declared.Relation.the-variants.{Bin, Fld}
-use Rattle.circuit.specs.Rows.{Sides, numbered}
+use Rattle.circuit.specs.Rows.{Sides, numbered, ofRelation}
 use Rattle.circuit.specs.Circuit.{adderRow, copyRows, addressRow, agreeRow, sumRow, firstCarryRow, outputRow, binFamilies, fldFamilies, circuitRows}
 use Rattle.circuit.specs.Laws.Families.{all-numbered}
 use Rattle.verdict.specs.Row.{holds}
-use Rattle.verdict.specs.Check.{Constraint, inCycle, ofRelation, constraints, met}
+use Rattle.verdict.specs.Counts.{counts}
+use Rattle.verdict.specs.Check.{Constraint, inCycle, constraints, met}
+use Rattle.verdict.specs.Laws.Counts.{ofOne, tally, tally-numbered}
 use Rattle.verdict.specs.Laws.Run.{Met}
 
 -- ---- the constraints of cycle 0, in their order
@@ -52,17 +54,13 @@ pub output-at : constraints 1 circuitRows ≡ (bins ++ rowsIn Fld beforeOutput) 
 unfolding constraints ofRelation circuitRows binFamilies fldFamilies from fromEach joined numbered bins
 output-at = refl
 
-pub bins-count : length bins ≡ 483
-unfolding bins binFamilies from fromEach joined numbered
-bins-count = refl
+-- what they count
+pub bins-counted : tally bins ≡ counts 483 0
+unfolding tally bins binFamilies from fromEach joined numbered
+bins-counted = refl
 
-pub rows-count : (rel : Relation) (ss : List Sides) → length (rowsIn rel ss) ≡ length ss
-unfolding numbered
-rows-count rel ss = go 0 ss
-  where
-    go : (n : ℕ) (ss : List Sides) → length (map (inCycle 0) (numbered rel n ss)) ≡ length ss
-    go n [] = refl
-    go n (s ∷ ss) = ap suc (go (suc n) ss)
+pub rows-counted : (rel : Relation) (ss : List Sides) → tally (rowsIn rel ss) ≡ ofOne rel (length ss)
+rows-counted rel ss = tally-numbered rel 0 0 ss
 
 pub rows-met : (view : ℕ → ℕ → Gf128) (rel : Relation) (ss : List Sides) → All (λ s. holds (view 0) s ≡ true) ss
     → Met (met view) (rowsIn rel ss)

@@ -4,10 +4,10 @@
 use mathlib.Core.Path.{_≡_, refl, sym, ap, ap₂, subst, _∙_}
 use mathlib.Core.Bool.{Bool, true, false, not, _&&_, and-false, false≢true}
 use mathlib.Core.List.{List, [], _∷_, _++_}
-use Prim.Native.Nat.{ℕ, _+_, _*_}
+use Prim.Native.Nat.{ℕ, _+_}
 use native.Mathlib.Omega.{arith}
 use borrow.Author.Tests.{eq-eqb}
-use lib.ListN.{length, replicate, drop, length-append}
+use lib.ListN.{length, replicate, drop}
 use Rattle.base.specs.Lists.{joined, All, from, fromEach}
 use Rattle.base.specs.Bits.{_⊻_, word}
 use Rattle.base.specs.Laws.Tests.{refused}
@@ -20,19 +20,23 @@ use Rattle.layout.specs.declared.Asked.the-variants.{Yes}
 use Rattle.layout.specs.Columns.{ONE-COL, RD, T1, T2, ALU, SUB, WE, IS-LOAD, IS-STORE, IS-ARITH, LD-HALF, LD-WORD, RAM-ADDR, FETCH-OP, WNL, ZE16, ZE8}
 use Rattle.layout.specs.Batch.{allowed, scratchFits}
 use Rattle.circuit.specs.declared.Relation.the-variants.{Bin, Fld}
-use Rattle.circuit.specs.Rows.{Sides, Row, numbered}
+use Rattle.circuit.specs.Rows.{Sides, numbered}
 use Rattle.circuit.specs.Circuit.{adderRow, copyRows, addressRow, agreeRow, sumRow, firstCarryRow, outputRow, binFamilies, circuitRows, circuitWords}
 use Rattle.circuit.specs.Parse.{rowsOf}
 use Rattle.circuit.specs.Batched.{batchRow}
-use Rattle.circuit.specs.Laws.House.{words-read, counts}
+use Rattle.circuit.specs.Laws.House.{words-read}
 use Rattle.strict.specs.declared.Known.the-variants.{House}
+use Rattle.verdict.specs.declared.Counts.{Counts}
 use Rattle.verdict.specs.declared.Verdict.{Verdict}
 use Rattle.verdict.specs.declared.Verdict.the-variants.{Accepted, Failed}
 use Rattle.verdict.specs.declared.CheckAnswer.the-variants.{Judged}
 use Rattle.verdict.specs.Row.{cycleOf, holds, bitsOf}
 use Rattle.verdict.specs.OverBits.{plain}
 use Rattle.verdict.specs.Named.{named}
+use Rattle.verdict.specs.Counts.{counts, none, counted}
 use Rattle.verdict.specs.Check.{Constraint, constraints, met, run, judged, checked}
+use Rattle.verdict.specs.Laws.Counts.{plus, none-plus, tally, tally-append}
+use Rattle.verdict.specs.Laws.Known.{every-known}
 use Rattle.verdict.specs.Laws.Run.{Met, run-past}
 use Rattle.verdict.specs.Laws.Verdicts.{accepts}
 use Rattle.verdict.specs.Laws.Sheet.{checked-is}
@@ -54,7 +58,7 @@ use Rattle.step.specs.Laws.FillAnswers.{fills}
 use Rattle.step.specs.Laws.Batch.{same-given, same-public, of-bits, filled-meets, filled-determined, rows-or-conditions}
 use Rattle.step.specs.Laws.Listings.{cycle-rows, listed}
 use Rattle.step.specs.Laws.Ones.{Holding, Fits, bits-are, output-is, premises}
-use Rattle.step.specs.Laws.CycleOrder.{at, rowsIn, beforeAddress, bins, beforeSum, beforeOutput, address-at, sum-at, output-at, bins-count, rows-count, rows-met}
+use Rattle.step.specs.Laws.CycleOrder.{at, rowsIn, beforeAddress, bins, beforeSum, beforeOutput, address-at, sum-at, output-at, bins-counted, rows-counted, rows-met}
 
 -- the filler as called says yes and leaves the row filled, on which the check as called, over the house listing and with any scratch that
 -- fits, gives a verdict, and zeros in the scratch
@@ -108,11 +112,11 @@ module _ (cs : List ℕ) (n : ℕ) (row : List ℕ) (h : Holding cs n row) (t : 
   unfolding determining
   families = all-joined (Holds b) determiningFamilies .0 (filled-meets 1 (omega arith) row p 0 (omega arith))
 
-  pub accepted : Step (has cs) (ofWords n 0) → Gives row (Accepted 514)
+  pub accepted : Step (has cs) (ofWords n 0) → Gives row (Accepted (counts 483 31))
   accepted s =
       gives
       (accepts 1 circuitWords (filled 1 row) (λ d l. let e : 0 ≡ d = omega arith in subst Every e every-row)
-      ∙ ap (λ (rs : List Row). Accepted (1 * length rs)) words-read ∙ ap (λ (k : ℕ). Accepted (1 * k)) (counts .rows))
+      ∙ ap Accepted (every-known House 1))
     where
       Every : ℕ → Type 0
       Every d = All (λ r. holds (view d) (r .sides) ≡ true) (rowsOf circuitWords)
@@ -129,18 +133,18 @@ module _ (cs : List ℕ) (n : ℕ) (row : List ℕ) (h : Holding cs n row) (t : 
   -- the first constraint that does not hold
   first-fails : (xs : List Constraint) (k : Constraint) (ys : List Constraint) → constraints 1 circuitRows ≡ xs ++ (k ∷ ys)
       → Met (met view) xs → met view k ≡ false
-      → {i m : ℕ} → batchRow (k .row .relation) (k .cycle) (k .row .number) ≡ i → length xs + 1 ≡ m
+      → {i : ℕ} {m : Counts} → batchRow (k .row .relation) (k .cycle) (k .row .number) ≡ i → counted (k .row .relation) (tally xs) ≡ m
       → Gives row (Failed (k .row .relation) i m)
   unfolding judged run
-  first-fails xs k ys e held fails row-is rows-are =
+  first-fails xs k ys e held fails row-is counts-are =
       gives
-      (ap (run (met view) 0) (ap (constraints 1) words-read ∙ e) ∙ run-past (met view) xs (k ∷ ys) 0 held
+      (ap (run (met view) none) (ap (constraints 1) words-read ∙ e) ∙ run-past (met view) xs (k ∷ ys) none held
       ∙ sym (refused (met view k) _ _ fails)
-      ∙ ap₂ (Failed (k .row .relation)) row-is (omega (arith, rows-are)))
+      ∙ ap₂ (Failed (k .row .relation)) row-is (ap (counted (k .row .relation)) (none-plus (tally xs)) ∙ counts-are))
 
   -- just one of load and store, and the lowest bits of RAM_ADDR and of the address in ALU differ
-  pub address-fails : (has cs IS-LOAD ⊻ has cs IS-STORE) ≡ true → has cs RAM-ADDR ≡ not (has cs (ALU + 3)) → Gives row (Failed Bin 255 256)
-  unfolding derived from fromEach plain named numbered beforeHalt beforeAddress
+  pub address-fails : (has cs IS-LOAD ⊻ has cs IS-STORE) ≡ true → has cs RAM-ADDR ≡ not (has cs (ALU + 3)) → Gives row (Failed Bin 255 (counts 256 0))
+  unfolding derived from fromEach plain named numbered tally beforeHalt beforeAddress
   address-fails one differ =
       first-fails (rowsIn Bin beforeAddress) (at Bin 255 (addressRow 0)) (drop 256 (constraints 1 circuitRows)) address-at
       (rows-met view Bin beforeAddress
@@ -188,14 +192,15 @@ module _ (cs : List ℕ) (n : ℕ) (row : List ℕ) (h : Holding cs n row) (t : 
     -- a fld row, after those before it
     fld-fails : (ss : List Sides) (s : Sides)
         → constraints 1 circuitRows ≡ (bins ++ rowsIn Fld ss) ++ (at Fld (length ss) s ∷ drop (484 + length ss) (constraints 1 circuitRows))
-        → All (λ s. holds z s ≡ true) ss → holds z s ≡ false → Gives row (Failed Fld (length ss) (484 + length ss))
+        → All (λ s. holds z s ≡ true) ss → holds z s ≡ false → Gives row (Failed Fld (length ss) (counts 483 (1 + length ss)))
     fld-fails ss s e held fails =
         first-fails (bins ++ rowsIn Fld ss) (at Fld (length ss) s) (drop (484 + length ss) (constraints 1 circuitRows)) e
         (all-append (λ k. met view k ≡ true) bins (rowsIn Fld ss) bins-met (rows-met view Fld ss held)) fails
-        (omega arith) (omega (arith, length-append bins (rowsIn Fld ss), bins-count, rows-count Fld ss))
+        (omega arith)
+        (ap (counted Fld) (tally-append bins (rowsIn Fld ss) ∙ ap₂ plus bins-counted (rows-counted Fld ss)) ∙ ap₂ counts refl (omega arith))
 
     -- arithmetic, and the lowest bit of ALU is not that of the sum
-    pub sum-fails : has cs IS-ARITH ≡ true → has cs ALU ≡ not (has cs T1 ⊻ has cs T2 ⊻ has cs SUB) → Gives row (Failed Fld 1 485)
+    pub sum-fails : has cs IS-ARITH ≡ true → has cs ALU ≡ not (has cs T1 ⊻ has cs T2 ⊻ has cs SUB) → Gives row (Failed Fld 1 (counts 483 2))
     unfolding derived
     sum-fails adds differ = fld-fails beforeSum sumRow sum-at (write-holds, tt)
         (no-true _ (λ e. not-self _ (sym differ ∙ sym (given ALU refl) ∙ lowest e)))
@@ -206,7 +211,7 @@ module _ (cs : List ℕ) (n : ℕ) (row : List ℕ) (h : Holding cs n row) (t : 
             ∙ ap₂ _⊻_ (ap₂ _⊻_ (given T1 refl) (given T2 refl)) (facts .first-carry ∙ given SUB refl)
 
     -- opcode 0x73, no arithmetic, and the public element is not RD
-    pub output-fails : has cs IS-ARITH ≡ false → opcode (has cs) ≡ 0x73 → (n ≡ word (has cs) RD 64 → ⊥) → Gives row (Failed Fld 3 487)
+    pub output-fails : has cs IS-ARITH ≡ false → opcode (has cs) ≡ 0x73 → (n ≡ word (has cs) RD 64 → ⊥) → Gives row (Failed Fld 3 (counts 483 4))
     unfolding derived plain named
     output-fails no-sum system differ =
         fld-fails beforeOutput outputRow output-at

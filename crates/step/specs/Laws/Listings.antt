@@ -49,7 +49,7 @@ judged-accepts cpi listing u = (λ e. go (judged cpi listing u) refl e, λ h. ap
   where
     go : (r : Verdict) → judged cpi listing u ≡ r → acceptedVerdict r ≡ true → EveryRowHolds cpi listing u
     go (Accepted n) q e = verdicts.accepted cpi listing u n q
-    go (Failed rel row rows) q e = absurd (false≢true e)
+    go (Failed rel row n) q e = absurd (false≢true e)
 
 -- every question is answered with yes
 pub checked-answer : (cpi : ℕ) (listing u scratch : List ℕ) → allowed cpi ≡ true → validated listing ≡ Yes → scratchFits (length scratch)

@@ -1,13 +1,13 @@
 -- The verdict of the strict listing on the filler's batch where flags are wrong: it names the first cycle whose flags break one of rows 483
 -- to 490, and there the first of these rows; 491 bin rows are counted for each cycle before.
 -- Assumes nothing.
-use mathlib.Core.Path.{_≡_, refl, sym, ap, ap₂, subst, _∙_}
-use mathlib.Core.Bool.{Bool, true, false, not, cond, _&&_, true≢false}
+use mathlib.Core.Path.{_≡_, refl, sym, ap, ap₂, _∙_}
+use mathlib.Core.Bool.{Bool, true, false, cond, true≢false}
 use mathlib.Core.List.{List, [], _∷_, _++_, map, map-append}
-use Prim.Native.Nat.{ℕ, zero, suc, _+_, _*_, _<_}
+use Prim.Native.Nat.{ℕ, suc, _+_, _*_, _<_}
 use native.Mathlib.Omega.{arith}
 use borrow.Author.Tests.{eq-eqb, ne-eqb}
-use lib.ListN.{length, length-map, replicate}
+use lib.ListN.{length, replicate}
 use Rattle.base.specs.Lists.{joined, All, from, fromEach}
 use Rattle.base.specs.Laws.Tests.{both, passed, refused}
 use Rattle.base.specs.Laws.Cases.{no-true}
@@ -17,22 +17,25 @@ use Rattle.layout.specs.Columns.{ONE-COL}
 use Rattle.layout.specs.Batch.{allowed, scratchFits}
 use Rattle.layout.specs.Laws.Sizes.{allowed-range}
 use Rattle.circuit.specs.declared.Relation.the-variants.{Bin, Fld}
-use Rattle.circuit.specs.Rows.{Sides, Row, numbered}
+use Rattle.circuit.specs.Rows.{Sides, Row, numbered, ofRelation}
 use Rattle.circuit.specs.Circuit.{binFamilies, fldFamilies}
 use Rattle.circuit.specs.Laws.Families.{all-numbered}
 use Rattle.strict.specs.declared.Known.the-variants.{House, Strict}
 use Rattle.strict.specs.Rows.{flagRows, strictRows, strictWords}
 use Rattle.strict.specs.Laws.Strict.{in-order, words-read}
+use Rattle.verdict.specs.declared.Counts.{Counts}
 use Rattle.verdict.specs.declared.Verdict.the-variants.{Failed}
 use Rattle.verdict.specs.declared.CheckAnswer.the-variants.{Judged}
 use Rattle.verdict.specs.Row.{cycleOf, holds, bitsOf}
 use Rattle.verdict.specs.OverBits.{sumBits}
-use Rattle.verdict.specs.Check.{Constraint, inCycle, inCycles, ofRelation, constraints, met, run, judged, checked}
-use Rattle.verdict.specs.Laws.Run.{Met, run-past, run-stops}
+use Rattle.verdict.specs.Counts.{counts, none, counted}
+use Rattle.verdict.specs.Check.{inCycle, inCycles, constraints, met, run, judged, checked}
+use Rattle.verdict.specs.Laws.Counts.{plus, ofOne, tally, tally-numbered, tally-cycles}
+use Rattle.verdict.specs.Laws.Run.{run-past, run-stops}
 use Rattle.verdict.specs.Laws.Verdicts.{cycle-fails, answered-yes}
 use Rattle.step.specs.Step.{Step}
 use Rattle.step.specs.Strict.{StrictStep}
-use Rattle.step.specs.Solve.{lacks, Holds}
+use Rattle.step.specs.Solve.{lacks}
 use Rattle.step.specs.Filling.{fillerBits, filled}
 use Rattle.step.specs.Demand3.{Premises}
 use Rattle.step.specs.Laws.Solvable.{readsRow, same-lacks}
@@ -63,29 +66,29 @@ same-broken y z h (s ∷ ss) e =
 -- ---- a walk over rows of one cycle, numbered from m, where n were tested before
 
 module _ (view : ℕ → ℕ → Gf128) (e : ℕ) (b : ℕ → Bool) (o : OfBits (view e) b) where
-  run-breaks : (ss : List Sides) (m n : ℕ) → allOverBits ss ≡ true → firstBroken b ss < length ss
+  run-breaks : (ss : List Sides) (m : ℕ) (n : Counts) → allOverBits ss ≡ true → firstBroken b ss < length ss
       → run (met view) n (map (inCycle e) (numbered Bin m ss))
-      ≡ Failed Bin (512 * e + (m + firstBroken b ss)) (n + firstBroken b ss + 1)
+      ≡ Failed Bin (512 * e + (m + firstBroken b ss)) (plus n (ofOne Bin (firstBroken b ss + 1)))
   unfolding run numbered firstBroken
   run-breaks [] m n t l = absurd (omega arith)
-  run-breaks (s ∷ ss) m n t l = go (lacks b s) refl l (run-breaks ss (suc m) (n + 1) (both (overBits s) (allOverBits ss) t .1))
+  run-breaks (s ∷ ss) m n t l = go (lacks b s) refl l (run-breaks ss (suc m) (counted Bin n) (both (overBits s) (allOverBits ss) t .1))
     where
       over : overBits s ≡ true
       over = both (overBits s) (allOverBits ss) t .0
 
       go : (k : Bool) → lacks b s ≡ k → cond k 0 (suc (firstBroken b ss)) < suc (length ss)
           → (firstBroken b ss < length ss
-          → run (met view) (n + 1) (map (inCycle e) (numbered Bin (suc m) ss))
-          ≡ Failed Bin (512 * e + (suc m + firstBroken b ss)) (n + 1 + firstBroken b ss + 1))
+          → run (met view) (counted Bin n) (map (inCycle e) (numbered Bin (suc m) ss))
+          ≡ Failed Bin (512 * e + (suc m + firstBroken b ss)) (plus (counted Bin n) (ofOne Bin (firstBroken b ss + 1))))
           → run (met view) n (map (inCycle e) (numbered Bin m (s ∷ ss)))
-          ≡ Failed Bin (512 * e + (m + cond k 0 (suc (firstBroken b ss)))) (n + cond k 0 (suc (firstBroken b ss)) + 1)
+          ≡ Failed Bin (512 * e + (m + cond k 0 (suc (firstBroken b ss)))) (plus n (ofOne Bin (cond k 0 (suc (firstBroken b ss)) + 1)))
       go true q l later =
           sym (refused (holds (view e) s) _ _ (no-true _ (λ h. true≢false (sym q ∙ bin-row (view e) b (o .bits) s over .0 h))))
-          ∙ ap₂ (Failed Bin) (omega arith) (omega arith)
+          ∙ ap₂ (Failed Bin) (omega arith) (ap₂ counts (omega arith) (omega arith))
       go false q l later =
           sym (passed (holds (view e) s) _ _ (bin-row (view e) b (o .bits) s over .1 q))
           ∙ later (omega arith)
-          ∙ ap₂ (Failed Bin) (omega arith) (omega arith)
+          ∙ ap₂ (Failed Bin) (omega arith) (ap₂ counts (omega arith) (omega arith))
 
 -- ---- the rows of a cycle
 
@@ -98,7 +101,7 @@ addedBins = numbered Bin 483 flagRows
 -- by one computed test
 record Computed : Type 0 where
   bins-are : ofRelation Bin strictRows ≡ houseBins ++ addedBins
-  house-count : length houseBins ≡ 483
+  house-count : length (joined binFamilies) ≡ 483
   bin-count : length (houseBins ++ addedBins) ≡ 491
   flags-count : length flagRows ≡ 8
 
@@ -147,33 +150,44 @@ module _ (cpi : ℕ) (size : allowed cpi ≡ true) (w : List ℕ) (p : Premises 
     abbrev j : ℕ
     j = firstBroken (bitsOf cpi w e) flagRows
 
-    cycle-breaks : j < 8 → run (met view) 0 (map (inCycle e) (houseBins ++ addedBins)) ≡ Failed Bin (512 * e + (483 + j)) (484 + j)
-    unfolding addedBins
+    cycle-breaks : j < 8 → run (met view) none (map (inCycle e) (houseBins ++ addedBins))
+        ≡ Failed Bin (512 * e + (483 + j)) (counts (484 + j) 0)
+    unfolding houseBins addedBins
     cycle-breaks l =
         let same = same-broken _ _ (given e inside) flagRows (listed Strict .read-given) in
         let few : firstBroken (bitsOf cpi W e) flagRows < length flagRows = omega (arith, same, computed .flags-count) in
-        ap (run (met view) 0) (map-append (inCycle e) houseBins addedBins)
-        ∙ run-past (met view) (map (inCycle e) houseBins) (map (inCycle e) addedBins) 0
+        ap (run (met view) none) (map-append (inCycle e) houseBins addedBins)
+        ∙ run-past (met view) (map (inCycle e) houseBins) (map (inCycle e) addedBins) none
         (all-map (λ k. met view k ≡ true) (inCycle e) houseBins .1 (house-hold e inside ten))
-        ∙ run-breaks view e (bitsOf cpi W e) (of e inside) flagRows 483 (0 + length (map (inCycle e) houseBins)) (listed Strict .over-bits) few
-        ∙ ap₂ (Failed Bin) (ap (λ (i : ℕ). 512 * e + (483 + i)) same) (omega (arith, same, length-map houseBins (inCycle e), computed .house-count))
+        ∙ run-breaks view e (bitsOf cpi W e) (of e inside) flagRows 483 (plus none (tally (map (inCycle e) houseBins))) (listed Strict .over-bits)
+        few
+        ∙ ap₂ (Failed Bin) (ap (λ (i : ℕ). 512 * e + (483 + i)) same)
+        (ap₂ (λ (n : Counts) (i : ℕ). plus (plus none n) (ofOne Bin (i + 1)))
+        (tally-numbered Bin e 0 (joined binFamilies) ∙ ap (ofOne Bin) (computed .house-count)) same ∙ ap₂ counts (omega arith) refl)
 
-    named-row : j < 8 → judged cpi strictWords W ≡ Failed Bin (512 * e + 483 + j) (491 * e + 484 + j)
+    -- the cycles before
+    before-e : tally (inCycles 0 e (houseBins ++ addedBins)) ≡ ofOne Bin (e * 491)
+    before-e =
+        ap (λ (rs : List Row). tally (inCycles 0 e rs)) (sym (computed .bins-are)) ∙ tally-cycles Bin strictRows e 0
+        ∙ ap (λ (n : ℕ). ofOne Bin (e * n)) (ap length (computed .bins-are) ∙ computed .bin-count)
+
+    named-row : j < 8 → judged cpi strictWords W ≡ Failed Bin (512 * e + 483 + j) (counts (491 * e + 484 + j) 0)
     unfolding judged constraints
     named-row l =
-        ap (λ (rs : List Row). run (met view) 0 (constraints cpi rs)) words-read
-        ∙ run-stops (met view) (inCycles 0 cpi (ofRelation Bin strictRows)) (inCycles 0 cpi (ofRelation Fld strictRows)) 0
-        (ap (λ (rs : List Row). run (met view) 0 (inCycles 0 cpi rs)) (computed .bins-are)
-        ∙ cycle-fails (met view) (houseBins ++ addedBins) cpi 0 e 0 inside (λ d _ m. all-hold d (omega arith) (before d (omega arith)))
-        (ap (λ (k : ℕ). run (met view) 0 (map (inCycle k) (houseBins ++ addedBins))) (omega arith) ∙ cycle-breaks l))
-        ∙ ap₂ (Failed Bin) (omega arith) (ap (λ (n : ℕ). 0 + e * n + (484 + j)) (computed .bin-count) ∙ omega arith)
+        ap (λ (rs : List Row). run (met view) none (constraints cpi rs)) words-read
+        ∙ run-stops (met view) (inCycles 0 cpi (ofRelation Bin strictRows)) (inCycles 0 cpi (ofRelation Fld strictRows)) none
+        (ap (λ (rs : List Row). run (met view) none (inCycles 0 cpi rs)) (computed .bins-are)
+        ∙ cycle-fails (met view) (houseBins ++ addedBins) cpi 0 e none inside (λ d _ m. all-hold d (omega arith) (before d (omega arith)))
+        (ap (λ (k : ℕ). run (met view) none (map (inCycle k) (houseBins ++ addedBins))) (omega arith) ∙ cycle-breaks l))
+        ∙ ap₂ (Failed Bin) (omega arith)
+        (ap (λ (n : Counts). plus none (plus n (counts (484 + j) 0))) before-e ∙ ap₂ counts (omega arith) refl)
 
     -- of the check as it is called
     pub strict-names : (scratch : List ℕ) → scratchFits (length scratch) ≡ true → firstBroken (bitsOf cpi w e) flagRows < 8
         → checked cpi strictWords (filled cpi w) scratch
         ≡ record {
           answer = Judged (Failed Bin (512 * e + 483 + firstBroken (bitsOf cpi w e) flagRows)
-              (491 * e + 484 + firstBroken (bitsOf cpi w e) flagRows));
+              (counts (491 * e + 484 + firstBroken (bitsOf cpi w e) flagRows) 0));
           scratch = replicate (length scratch) 0;
         }
     unfolding filled
@@ -183,11 +197,11 @@ module _ (cpi : ℕ) (size : allowed cpi ≡ true) (w : List ℕ) (p : Premises 
 
 -- ---- so of flags in one cycle, with 0 elsewhere
 
--- the check of the filler's batch, with the flags of cycle e as they are given, names a bin row and counts the rows tested
+-- the check of the filler's batch, with the flags of cycle e as they are given, names a bin row and counts so many of bin, and none of fld
 abbrev pub Names : List ℕ → ℕ → ℕ → Bool → Bool → Bool → Bool → Bool → ℕ → ℕ → Type 0
-Names scratch cpi e load store byte half word row rows =
+Names scratch cpi e load store byte half word row bin =
     checked cpi strictWords (filled cpi (flagged cpi e load store byte half word)) scratch
-    ≡ record { answer = Judged (Failed Bin row rows); scratch = replicate (length scratch) 0 }
+    ≡ record { answer = Judged (Failed Bin row (counts bin 0)); scratch = replicate (length scratch) 0 }
 
 module _ (cpi : ℕ) (size : allowed cpi ≡ true) (scratch : List ℕ) (room : scratchFits (length scratch) ≡ true) (e : ℕ) (inside : e < cpi)
     (l s y h w : Bool) where
@@ -201,7 +215,7 @@ module _ (cpi : ℕ) (size : allowed cpi ≡ true) (scratch : List ℕ) (room : 
       (there cpi size scratch room e inside l s y h w House e inside true (eq-eqb e e refl) (ten-met l s y h w)) scratch room
       (omega (arith, is-j))
       ∙ ap (λ (i : ℕ). record {
-        answer = Judged (Failed Bin (512 * e + 483 + i) (491 * e + 484 + i));
+        answer = Judged (Failed Bin (512 * e + 483 + i) (counts (491 * e + 484 + i) 0));
         scratch = replicate (length scratch) 0;
       }) is-j
 

@@ -1,20 +1,22 @@
 -- The check over a listing that is named answers as the check does that is lent that listing and scratch that fits; and what it accepts, it
--- accepts with all rows of the listing counted for each cycle.
+-- accepts with all rows of the listing counted for each cycle, bin and fld apart.
 -- Assumes nothing.
 use mathlib.Core.Path.{_≡_, sym, ap, _∙_}
 use mathlib.Core.Bool.{true}
 use mathlib.Core.List.{List}
-use Prim.Native.Nat.{ℕ, _*_}
-use native.Mathlib.Nat.{mul-comm}
+use Prim.Native.Nat.{ℕ}
 use lib.ListN.{length}
 use Rattle.layout.specs.Batch.{batchAsked, scratchFits}
 use Rattle.layout.specs.Questions.{ifYes}
 use Rattle.strict.specs.declared.Known.{Known}
-use Rattle.strict.specs.Known.{listingOf, rowsEach}
-use Rattle.strict.specs.Laws.Known.{in-order, row-count}
+use Rattle.strict.specs.Known.{listingOf}
+use Rattle.strict.specs.Laws.Known.{in-order}
+use Rattle.verdict.specs.declared.Counts.{Counts}
 use Rattle.verdict.specs.declared.Verdict.the-variants.{Accepted}
 use Rattle.verdict.specs.declared.CheckAnswer.the-variants.{Judged, Refused}
+use Rattle.verdict.specs.Counts.{countsOf, everyRowOf}
 use Rattle.verdict.specs.Check.{judged, checked, knownChecked}
+use Rattle.verdict.specs.Laws.Known.{every-known}
 use Rattle.verdict.specs.Laws.Scratch.{answer-fits}
 use Rattle.verdict.specs.Laws.Verdicts.{accepts, accepted}
 
@@ -27,10 +29,7 @@ known-agrees k cpi batch scratch s =
     ∙ ap (λ q. ifYes Refused (batchAsked cpi (length batch)) (ifYes Refused q (Judged (judged cpi (listingOf k) batch)))) (in-order k))
 
 -- whatever stands in the batch
-pub accepted-rows : (k : Known) (cpi : ℕ) (batch : List ℕ) (n : ℕ) → judged cpi (listingOf k) batch ≡ Accepted n → n ≡ rowsEach k * cpi
-accepted-rows k cpi batch n e =
-    rows-in (sym e ∙ accepts cpi (listingOf k) batch (accepted cpi (listingOf k) batch n e))
-    ∙ ap (_*_ cpi) (row-count k) ∙ mul-comm cpi (rowsEach k)
-  where
-    rows-in : {m i : ℕ} → Accepted m ≡ Accepted i → m ≡ i
-    rows-in q = cc
+pub accepted-counts : (k : Known) (cpi : ℕ) (batch : List ℕ) (n : Counts) → judged cpi (listingOf k) batch ≡ Accepted n
+    → n ≡ everyRowOf k cpi
+accepted-counts k cpi batch n e =
+    ap countsOf (sym e ∙ accepts cpi (listingOf k) batch (accepted cpi (listingOf k) batch n e)) ∙ every-known k cpi

@@ -19,10 +19,12 @@ use Rattle.circuit.specs.declared.Coefficient.the-variants.{Zero, Power}
 use Rattle.circuit.specs.Rows.{Term, Sides, Row}
 use Rattle.circuit.specs.Found.{rowsACycle}
 use Rattle.circuit.specs.Batched.{batchRow}
+use Rattle.verdict.specs.declared.Counts.{Counts}
 use Rattle.verdict.specs.declared.Verdict.{Verdict}
 use Rattle.verdict.specs.declared.Verdict.the-variants.{Accepted, Failed}
 use Rattle.verdict.specs.Row.{times, sumOf, balanced, holds}
-use Rattle.verdict.specs.Check.{inCycle, met, run}
+use Rattle.verdict.specs.Counts.{none, counted}
+use Rattle.verdict.specs.Check.{inCycle, met, failedAt, run}
 use Rattle.verdict.specs.Named.{named}
 use Rattle.verdict.specs.OverBits.{plainRow, holdsBits}
 use Rattle.verdict.specs.Laws.Run.{run-same}
@@ -96,24 +98,25 @@ module _ (z : ℕ → Gf128) (c : ℕ) (bits : (k : ℕ) → z k ≡ ofBit (eqb 
 -- ---- the rows of cycle d, where the test asks only the row: as in cycle 0, and further on
 
 abbrev pub further : ℕ → Verdict → Verdict
-further d (Accepted rows) = Accepted rows
-further d (Failed rel row rows) = Failed rel (batchRow rel d row) rows
+further d (Accepted n) = Accepted n
+further d (Failed rel row n) = Failed rel (batchRow rel d row) n
 
-run-further : (test : Row → Bool) (rs : List Row) (d n : ℕ)
+run-further : (test : Row → Bool) (rs : List Row) (d : ℕ) (n : Counts)
     → run (λ k. test (k .row)) n (map (inCycle d) rs) ≡ further d (run (λ k. test (k .row)) n (map (inCycle 0) rs))
 unfolding run
 run-further test [] d n = refl
-run-further test (r ∷ rs) d n = by-test (test r) (run-further test rs d (n + 1))
+run-further test (r ∷ rs) d n = by-test (test r) (run-further test rs d next)
   where
+    next : Counts
+    next = counted (r .relation) n
+
     by-test : (b : Bool)
-        → run (λ k. test (k .row)) (n + 1) (map (inCycle d) rs) ≡ further d (run (λ k. test (k .row)) (n + 1) (map (inCycle 0) rs))
-        → cond b (run (λ k. test (k .row)) (n + 1) (map (inCycle d) rs))
-        (Failed (r .relation) (batchRow (r .relation) d (r .number)) (n + 1))
-        ≡ further d (cond b (run (λ k. test (k .row)) (n + 1) (map (inCycle 0) rs))
-        (Failed (r .relation) (batchRow (r .relation) 0 (r .number)) (n + 1)))
+        → run (λ k. test (k .row)) next (map (inCycle d) rs) ≡ further d (run (λ k. test (k .row)) next (map (inCycle 0) rs))
+        → cond b (run (λ k. test (k .row)) next (map (inCycle d) rs)) (failedAt (inCycle d r) next)
+        ≡ further d (cond b (run (λ k. test (k .row)) next (map (inCycle 0) rs)) (failedAt (inCycle 0 r) next))
     by-test true e = e
     by-test false e =
-        ap (λ (i : ℕ). Failed (r .relation) (rowsACycle (r .relation) * d + i) (n + 1)) (omega (arith, mul-zero (rowsACycle (r .relation))))
+        ap (λ (i : ℕ). Failed (r .relation) (rowsACycle (r .relation) * d + i) next) (omega (arith, mul-zero (rowsACycle (r .relation))))
 
 -- ---- a cycle in which column c alone is 1, from what its rows were computed to say
 
@@ -131,8 +134,8 @@ module _ (view : ℕ → ℕ → Gf128) (c d : ℕ) (bits : (k : ℕ) → view d
   same-tests (r ∷ rs) t =
       let b = both (told c (r .sides)) (allTold c rs) t in (holds-alone (view d) c bits (r .sides) (b .0), same-tests rs (b .1))
 
-  pub cycle-says : (rs : List Row) → allTold c rs ≡ true → {v : Verdict} → run (λ k. testAlone c (k .row)) 0 (map (inCycle 0) rs) ≡ v
-      → run (met view) 0 (map (inCycle d) rs) ≡ further d v
+  pub cycle-says : (rs : List Row) → allTold c rs ≡ true → {v : Verdict} → run (λ k. testAlone c (k .row)) none (map (inCycle 0) rs) ≡ v
+      → run (met view) none (map (inCycle d) rs) ≡ further d v
   cycle-says rs t e =
-      run-same (met view) (λ k. testAlone c (k .row)) (map (inCycle d) rs) 0 (same-tests rs t)
-      ∙ run-further (testAlone c) rs d 0 ∙ ap (further d) e
+      run-same (met view) (λ k. testAlone c (k .row)) (map (inCycle d) rs) none (same-tests rs t)
+      ∙ run-further (testAlone c) rs d none ∙ ap (further d) e

@@ -1,6 +1,6 @@
 -- Failing verdicts of every cycle, with their numbers written out: of a batch that is 0 but for one column of cycle d the check names the
--- row of that cycle, 512 · d or 32 · d further on. It counts the rows before: in bin 483 for each cycle before; in fld 483 for every cycle
--- of the batch, and 31 for each before.
+-- row of that cycle, 512 · d or 32 · d further on. It counts the rows before: where it fails in bin, 483 of bin for each cycle before and
+-- none of fld; where it fails in fld, 483 of bin for every cycle of the batch, and 31 of fld for each before.
 -- Assumes nothing.
 use mathlib.Core.Path.{_≡_, refl, sym, ap, ap₂, subst, _∙_}
 use mathlib.Core.Bool.{Bool, true, false}
@@ -19,19 +19,25 @@ use Rattle.layout.specs.Batch.{allowed, columnAt, batchWords, scratchFits}
 use Rattle.layout.specs.Laws.Mapping.{witness-column, public-column, column-below, columns-apart}
 use Rattle.circuit.specs.declared.Relation.{Relation}
 use Rattle.circuit.specs.declared.Relation.the-variants.{Bin, Fld}
-use Rattle.circuit.specs.Rows.{Row, numbered}
+use Rattle.circuit.specs.Rows.{Row, numbered, ofRelation}
 use Rattle.circuit.specs.Circuit.{binFamilies, fldFamilies, circuitRows, circuitWords}
 use Rattle.circuit.specs.Batched.{batchRow}
 use Rattle.circuit.specs.Laws.House.{words-read, in-order}
+use Rattle.strict.specs.declared.Known.the-variants.{House}
+use Rattle.strict.specs.Known.{rowsEach}
+use Rattle.strict.specs.Laws.Known.{row-count}
+use Rattle.verdict.specs.declared.Counts.{Counts}
 use Rattle.verdict.specs.declared.Verdict.{Verdict}
 use Rattle.verdict.specs.declared.Verdict.the-variants.{Accepted, Failed}
 use Rattle.verdict.specs.declared.CheckAnswer.the-variants.{Judged}
 use Rattle.verdict.specs.Row.{cycleOf}
-use Rattle.verdict.specs.Check.{inCycle, inCycles, ofRelation, constraints, met, run, judged, checked}
+use Rattle.verdict.specs.Counts.{counts, none}
+use Rattle.verdict.specs.Check.{inCycle, inCycles, constraints, met, run, judged, checked}
 use Rattle.verdict.specs.Named.{named}
 use Rattle.verdict.specs.OverBits.{plain, sumBits}
 use Rattle.verdict.specs.Laws.Run.{Met, run-stops, run-past, met-run}
-use Rattle.verdict.specs.Laws.Verdicts.{count-cycles, in-cycles, cycle-fails, answered-yes}
+use Rattle.verdict.specs.Laws.Counts.{plus, none-plus, ofOne, tally, tally-cycles}
+use Rattle.verdict.specs.Laws.Verdicts.{in-cycles, cycle-fails, answered-yes}
 use Rattle.verdict.specs.Laws.ColumnAlone.{holds-zero, testAlone, allTold, cycle-says}
 use Rattle.verdict.specs.Laws.Sheet.{element-alone}
 use Rattle.field.specs.Gf as gf
@@ -84,13 +90,11 @@ flds = ofRelation Fld circuitRows
 
 record Computed : Type 0 where
   byte-told : allTold 928 bins ≡ true
-  byte-fails : run (λ k. testAlone 928 (k .row)) 0 (map (inCycle 0) bins) ≡ Failed Bin 295 296
+  byte-fails : run (λ k. testAlone 928 (k .row)) none (map (inCycle 0) bins) ≡ Failed Bin 295 (counts 296 0)
   carry-told : allTold 448 bins ≡ true
-  carry-holds : run (λ k. testAlone 448 (k .row)) 0 (map (inCycle 0) bins) ≡ Accepted 483
+  carry-holds : run (λ k. testAlone 448 (k .row)) none (map (inCycle 0) bins) ≡ Accepted (counts 483 0)
   fld-told : allTold 448 flds ≡ true
-  fld-fails : run (λ k. testAlone 448 (k .row)) 0 (map (inCycle 0) flds) ≡ Failed Fld 2 3
-  bin-count : length bins ≡ 483
-  fld-count : length flds ≡ 31
+  fld-fails : run (λ k. testAlone 448 (k .row)) none (map (inCycle 0) flds) ≡ Failed Fld 2 (counts 0 3)
 
 computed : Computed
 unfolding run allTold sumBits plain named bins flds ofRelation circuitRows binFamilies fldFamilies from fromEach joined numbered
@@ -102,31 +106,38 @@ computed =
       carry-holds = refl;
       fld-told = refl;
       fld-fails = refl;
-      bin-count = refl;
-      fld-count = refl;
     }
 
 -- ---- the verdicts
 
 module _ (cpi c d : ℕ) (hc : c < 2048) (hd : d < cpi) where
   -- where the rows fail in cycle d, so does the walk through their relation, n constraints on
-  relation-fails : (rs : List Row) (n : ℕ) → allTold c rs ≡ true → {rel : Relation} {row rows : ℕ}
-      → run (λ k. testAlone c (k .row)) 0 (map (inCycle 0) rs) ≡ Failed rel row rows
-      → run (met (cycleOf cpi (alone cpi c d))) n (inCycles 0 cpi rs) ≡ Failed rel (batchRow rel d row) (n + d * length rs + rows)
+  relation-fails : (rs : List Row) (n : Counts) → allTold c rs ≡ true → {rel : Relation} {row : ℕ} {m : Counts}
+      → run (λ k. testAlone c (k .row)) none (map (inCycle 0) rs) ≡ Failed rel row m
+      → run (met (cycleOf cpi (alone cpi c d))) n (inCycles 0 cpi rs)
+      ≡ Failed rel (batchRow rel d row) (plus n (plus (tally (inCycles 0 d rs)) m))
   relation-fails rs n t e =
       cycle-fails (met (cycleOf cpi (alone cpi c d))) rs cpi 0 d n hd
       (λ e l u. other-holds cpi c d hc hd e (omega arith) (λ q. omega arith) rs)
-      (ap (λ (k : ℕ). run (met (cycleOf cpi (alone cpi c d))) 0 (map (inCycle k) rs)) (omega arith)
+      (ap (λ (k : ℕ). run (met (cycleOf cpi (alone cpi c d))) none (map (inCycle k) rs)) (omega arith)
       ∙ cycle-says (cycleOf cpi (alone cpi c d)) c d (alone-view cpi c d hc hd) rs t e)
 
+-- the rows of n cycles of a relation
+before : (rel : Relation) (n : ℕ) → tally (inCycles 0 n (ofRelation rel circuitRows)) ≡ ofOne rel (n * rowsEach House rel)
+before rel n =
+    tally-cycles rel circuitRows n 0
+    ∙ ap (λ (m : ℕ). ofOne rel (n * m)) (sym (ap (λ (rs : List Row). length (ofRelation rel rs)) words-read) ∙ row-count House rel)
+
 -- CA of cycle d alone: bin row 295, the first gate of the loads by lane
-bin-judged : (cpi d : ℕ) → d < cpi → judged cpi circuitWords (alone cpi 928 d) ≡ Failed Bin (512 * d + 295) (483 * d + 296)
+bin-judged : (cpi d : ℕ) → d < cpi → judged cpi circuitWords (alone cpi 928 d) ≡ Failed Bin (512 * d + 295) (counts (483 * d + 296) 0)
 unfolding judged constraints bins
 bin-judged cpi d h =
-    ap (λ (rs : List Row). run (met (cycleOf cpi (alone cpi 928 d))) 0 (constraints cpi rs)) words-read
-    ∙ run-stops (met (cycleOf cpi (alone cpi 928 d))) (inCycles 0 cpi bins) (inCycles 0 cpi (ofRelation Fld circuitRows)) 0
-    (relation-fails cpi 928 d (omega arith) h bins 0 (computed .byte-told) (computed .byte-fails))
-    ∙ ap (Failed Bin (512 * d + 295)) (ap (λ (n : ℕ). 0 + d * n + 296) (computed .bin-count) ∙ omega arith)
+    ap (λ (rs : List Row). run (met (cycleOf cpi (alone cpi 928 d))) none (constraints cpi rs)) words-read
+    ∙ run-stops (met (cycleOf cpi (alone cpi 928 d))) (inCycles 0 cpi bins) (inCycles 0 cpi (ofRelation Fld circuitRows)) none
+    (relation-fails cpi 928 d (omega arith) h bins none (computed .byte-told) (computed .byte-fails))
+    ∙ ap (Failed Bin (512 * d + 295))
+    (none-plus (plus (tally (inCycles 0 d bins)) (counts 296 0)) ∙ ap (λ (n : Counts). plus n (counts 296 0)) (before Bin d)
+    ∙ ap₂ counts (omega arith) refl)
 
 -- CARRY_OFF of cycle d alone: no bin row of any cycle, and fld row 2, the first carry
 bins-met : (cpi d : ℕ) → d < cpi → Met (met (cycleOf cpi (alone cpi 448 d))) (inCycles 0 cpi bins)
@@ -139,19 +150,19 @@ bins-met cpi d h = in-cycles (λ k. met view k ≡ true) bins cpi 0 .1 (λ e l u
     by-test e l true q =
         subst (λ (i : ℕ). All (λ r. met view (inCycle i r) ≡ true) bins) (sym (eqb-true e d q))
         (all-map (λ k. met view k ≡ true) (inCycle d) bins .0
-        (met-run (met view) (map (inCycle d) bins) 0 483
+        (met-run (met view) (map (inCycle d) bins) none (counts 483 0)
         (cycle-says view 448 d (alone-view cpi 448 d (omega arith) h) bins (computed .carry-told) (computed .carry-holds))))
     by-test e l false q = other-holds cpi 448 d (omega arith) h e l (eqb-false e d q) bins
 
-fld-judged : (cpi d : ℕ) → d < cpi → judged cpi circuitWords (alone cpi 448 d) ≡ Failed Fld (32 * d + 2) (483 * cpi + 31 * d + 3)
+fld-judged : (cpi d : ℕ) → d < cpi → judged cpi circuitWords (alone cpi 448 d)
+    ≡ Failed Fld (32 * d + 2) (counts (483 * cpi) (31 * d + 3))
 unfolding judged constraints bins flds
 fld-judged cpi d h =
-    ap (λ (rs : List Row). run (met (cycleOf cpi (alone cpi 448 d))) 0 (constraints cpi rs)) words-read
-    ∙ run-past (met (cycleOf cpi (alone cpi 448 d))) (inCycles 0 cpi bins) (inCycles 0 cpi flds) 0 (bins-met cpi d h)
-    ∙ relation-fails cpi 448 d (omega arith) h flds (0 + length (inCycles 0 cpi bins)) (computed .fld-told) (computed .fld-fails)
+    ap (λ (rs : List Row). run (met (cycleOf cpi (alone cpi 448 d))) none (constraints cpi rs)) words-read
+    ∙ run-past (met (cycleOf cpi (alone cpi 448 d))) (inCycles 0 cpi bins) (inCycles 0 cpi flds) none (bins-met cpi d h)
+    ∙ relation-fails cpi 448 d (omega arith) h flds (plus none (tally (inCycles 0 cpi bins))) (computed .fld-told) (computed .fld-fails)
     ∙ ap (Failed Fld (32 * d + 2))
-    (ap₂ (λ (m n : ℕ). 0 + m + d * n + 3) (count-cycles bins cpi 0 ∙ ap (λ (n : ℕ). cpi * n) (computed .bin-count))
-    (computed .fld-count) ∙ omega arith)
+    (ap₂ (λ (m n : Counts). plus (plus none m) (plus n (counts 0 3))) (before Bin cpi) (before Fld d) ∙ ap₂ counts (omega arith) (omega arith))
 
 -- ---- the check as it is called
 
@@ -164,27 +175,27 @@ module _ (cpi d : ℕ) (ok : allowed cpi ≡ true) (h : d < cpi) (scratch : List
       ∙ ap (λ v. record { answer = Judged v; scratch = replicate (length scratch) 0 }) e
 
   pub bin-fails : checked cpi circuitWords (alone cpi 928 d) scratch
-      ≡ record { answer = Judged (Failed Bin (512 * d + 295) (483 * d + 296)); scratch = replicate (length scratch) 0 }
+      ≡ record { answer = Judged (Failed Bin (512 * d + 295) (counts (483 * d + 296) 0)); scratch = replicate (length scratch) 0 }
   bin-fails = as-called 928 (bin-judged cpi d h)
 
   pub fld-fails : checked cpi circuitWords (alone cpi 448 d) scratch
-      ≡ record { answer = Judged (Failed Fld (32 * d + 2) (483 * cpi + 31 * d + 3)); scratch = replicate (length scratch) 0 }
+      ≡ record { answer = Judged (Failed Fld (32 * d + 2) (counts (483 * cpi) (31 * d + 3))); scratch = replicate (length scratch) 0 }
   fld-fails = as-called 448 (fld-judged cpi d h)
 
 -- with all numbers written out: the last cycle of two, of four and of 256
 pub record Last (scratch : List ℕ) : Type 0 where
   pub bin-2 : checked 2 circuitWords (set (replicate 16384 0) 3714 1) scratch
-      ≡ record { answer = Judged (Failed Bin 807 779); scratch = replicate (length scratch) 0 }
+      ≡ record { answer = Judged (Failed Bin 807 (counts 779 0)); scratch = replicate (length scratch) 0 }
   pub fld-2 : checked 2 circuitWords (set (replicate 16384 0) 1794 1) scratch
-      ≡ record { answer = Judged (Failed Fld 34 1000); scratch = replicate (length scratch) 0 }
+      ≡ record { answer = Judged (Failed Fld 34 (counts 966 34)); scratch = replicate (length scratch) 0 }
   pub bin-4 : checked 4 circuitWords (set (replicate 32768 0) 7430 1) scratch
-      ≡ record { answer = Judged (Failed Bin 1831 1745); scratch = replicate (length scratch) 0 }
+      ≡ record { answer = Judged (Failed Bin 1831 (counts 1745 0)); scratch = replicate (length scratch) 0 }
   pub fld-4 : checked 4 circuitWords (set (replicate 32768 0) 3590 1) scratch
-      ≡ record { answer = Judged (Failed Fld 98 2028); scratch = replicate (length scratch) 0 }
+      ≡ record { answer = Judged (Failed Fld 98 (counts 1932 96)); scratch = replicate (length scratch) 0 }
   pub bin-256 : checked 256 circuitWords (set (replicate 2097152 0) 475646 1) scratch
-      ≡ record { answer = Judged (Failed Bin 130855 123461); scratch = replicate (length scratch) 0 }
+      ≡ record { answer = Judged (Failed Bin 130855 (counts 123461 0)); scratch = replicate (length scratch) 0 }
   pub fld-256 : checked 256 circuitWords (set (replicate 2097152 0) 229886 1) scratch
-      ≡ record { answer = Judged (Failed Fld 8162 131556); scratch = replicate (length scratch) 0 }
+      ≡ record { answer = Judged (Failed Fld 8162 (counts 123648 7908)); scratch = replicate (length scratch) 0 }
 
 pub last : (scratch : List ℕ) → scratchFits (length scratch) ≡ true → Last scratch
 unfolding allowed

@@ -21,6 +21,7 @@ use Rattle.circuit.specs.Valid.{validated}
 use Rattle.verdict.specs.declared.Verdict.{Verdict}
 use Rattle.verdict.specs.declared.Verdict.the-variants.{Accepted, Failed}
 use Rattle.verdict.specs.declared.CheckAnswer.the-variants.{Judged, Refused}
+use Rattle.verdict.specs.Counts.{counts}
 use Rattle.verdict.specs.Check.{Checked, judged, asked, after, checked}
 use Rattle.verdict.specs.Scratch.{Call, AnyScratch}
 use Rattle.verdict.specs.Sheet.{zeroRow, oneRow}
@@ -39,7 +40,7 @@ kept-after (No t) w r s u e = ap (λ (c : Checked). c .scratch) e
 
 -- ---- the answer is told by the questions
 
-told : (q : Asked) (w : Verdict) (s : List ℕ) → after q w s .answer ≡ ifYes Refused q (Judged w)
+pub told : (q : Asked) (w : Verdict) (s : List ℕ) → after q w s .answer ≡ ifYes Refused q (Judged w)
 told Yes w s = refl
 told (No r) w s = refl
 
@@ -91,11 +92,11 @@ any-scratch cpi listing batch =
 
 pub record GivenScratch : Type 0 where
   -- the least, one cycle: accepted, and failing
-  pub least : Call 1 circuitWords zeroRow (1 ∷ 2 ∷ 3 ∷ 4 ∷ 5 ∷ 6 ∷ []) (Judged (Accepted 514)) (0 ∷ 0 ∷ 0 ∷ 0 ∷ 0 ∷ 0 ∷ [])
-  pub least-fails : Call 1 circuitWords oneRow (1 ∷ 2 ∷ 3 ∷ 4 ∷ 5 ∷ 6 ∷ []) (Judged (Failed Bin 263 264)) (0 ∷ 0 ∷ 0 ∷ 0 ∷ 0 ∷ 0 ∷ [])
+  pub least : Call 1 circuitWords zeroRow (1 ∷ 2 ∷ 3 ∷ 4 ∷ 5 ∷ 6 ∷ []) (Judged (Accepted (counts 483 31))) (0 ∷ 0 ∷ 0 ∷ 0 ∷ 0 ∷ 0 ∷ [])
+  pub least-fails : Call 1 circuitWords oneRow (1 ∷ 2 ∷ 3 ∷ 4 ∷ 5 ∷ 6 ∷ []) (Judged (Failed Bin 263 (counts 264 0))) (0 ∷ 0 ∷ 0 ∷ 0 ∷ 0 ∷ 0 ∷ [])
   -- twelve words and two cycles, the most and 256
-  pub twelve : Call 2 circuitWords (set (replicate 16384 0) 1794 1) (replicate 12 7) (Judged (Failed Fld 34 1000)) (replicate 12 0)
-  pub most : Call 256 circuitWords (set (replicate 2097152 0) 475646 1) (replicate 3072 7) (Judged (Failed Bin 130855 123461))
+  pub twelve : Call 2 circuitWords (set (replicate 16384 0) 1794 1) (replicate 12 7) (Judged (Failed Fld 34 (counts 966 34))) (replicate 12 0)
+  pub most : Call 256 circuitWords (set (replicate 2097152 0) 475646 1) (replicate 3072 7) (Judged (Failed Bin 130855 (counts 123461 0)))
       (replicate 3072 0)
   -- no words, seven, and six past the most: refused, whatever the listing
   pub none : (listing : List ℕ) → Call 1 listing zeroRow [] (Refused (no 5 0)) []

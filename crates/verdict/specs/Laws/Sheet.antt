@@ -16,19 +16,22 @@ use Rattle.field.specs.Gf.Laws.{words-zero, words-one}
 use Rattle.layout.specs.Batch.{allowed, columnAt, scratchFits, ROW-WORDS}
 use Rattle.layout.specs.Laws.Mapping.{column-is}
 use Rattle.circuit.specs.declared.Relation.the-variants.{Bin, Fld}
-use Rattle.circuit.specs.Rows.{Row, numbered}
+use Rattle.circuit.specs.Rows.{Row, numbered, ofRelation}
 use Rattle.circuit.specs.Circuit.{binFamilies, fldFamilies, circuitRows, circuitWords}
 use Rattle.circuit.specs.Parse.{rowsOf}
-use Rattle.circuit.specs.Laws.House.{words-read, in-order, counts}
+use Rattle.circuit.specs.Laws.House.{words-read, in-order}
+use Rattle.strict.specs.declared.Known.the-variants.{House}
 use Rattle.verdict.specs.declared.Verdict.the-variants.{Accepted, Failed}
 use Rattle.verdict.specs.declared.CheckAnswer.the-variants.{Judged}
 use Rattle.verdict.specs.Row.{elementAt, cycleOf}
-use Rattle.verdict.specs.Check.{inCycle, inCycles, ofRelation, constraints, met, run, judged, checked}
+use Rattle.verdict.specs.Counts.{counts, none, everyRowOf}
+use Rattle.verdict.specs.Check.{inCycle, inCycles, constraints, met, run, judged, checked}
 use Rattle.verdict.specs.Named.{named}
 use Rattle.verdict.specs.OverBits.{plain, sumBits}
 use Rattle.verdict.specs.Sheet.{oneRow}
 use Rattle.verdict.specs.Laws.Run.{run-stops}
 use Rattle.verdict.specs.Laws.Verdicts.{accepts, answered-yes}
+use Rattle.verdict.specs.Laws.Known.{every-known}
 use Rattle.verdict.specs.Laws.ColumnAlone.{holds-zero, testAlone, allTold, cycle-says}
 use Rattle.field.specs.Gf as gf
 
@@ -53,15 +56,15 @@ unfolding cycleOf
 nothing n cpi d c = ap₂ ofWords (zeros n (2 * columnAt cpi c d)) (zeros n (2 * columnAt cpi c d + 1)) ∙ words-zero
 
 -- whatever the batch size
-pub zeros-accepted : (cpi n : ℕ) → judged cpi circuitWords (replicate n 0) ≡ Accepted (cpi * 514)
+pub zeros-accepted : (cpi n : ℕ) → judged cpi circuitWords (replicate n 0) ≡ Accepted (everyRowOf House cpi)
 zeros-accepted cpi n =
     accepts cpi circuitWords (replicate n 0)
     (λ d h. all-every _ (λ r. holds-zero (cycleOf cpi (replicate n 0) d) (nothing n cpi d) (r .sides)) (rowsOf circuitWords))
-    ∙ ap (λ (rs : List Row). Accepted (cpi * length rs)) words-read ∙ ap (λ (k : ℕ). Accepted (cpi * k)) (counts .rows)
+    ∙ ap Accepted (every-known House cpi)
 
 pub p4 : (scratch : List ℕ) → scratchFits (length scratch) ≡ true
     → checked 1 circuitWords (replicate ROW-WORDS 0) scratch
-    ≡ record { answer = Judged (Accepted 514); scratch = replicate (length scratch) 0 }
+    ≡ record { answer = Judged (Accepted (counts 483 31)); scratch = replicate (length scratch) 0 }
 p4 scratch s =
     checked-is (replicate ROW-WORDS 0) scratch (length-replicate {A = ℕ} ROW-WORDS 0) s
     ∙ ap (λ v. record { answer = Judged v; scratch = replicate (length scratch) 0 }) (zeros-accepted 1 ROW-WORDS)
@@ -94,19 +97,19 @@ bins-told : allTold 2048 bins ≡ true
 unfolding allTold plain named bins ofRelation circuitRows binFamilies fldFamilies from fromEach joined numbered
 bins-told = refl
 
-bins-run : run (λ k. testAlone 2048 (k .row)) 0 (map (inCycle 0) bins) ≡ Failed Bin 263 264
+bins-run : run (λ k. testAlone 2048 (k .row)) none (map (inCycle 0) bins) ≡ Failed Bin 263 (counts 264 0)
 unfolding run sumBits named bins ofRelation circuitRows binFamilies fldFamilies from fromEach joined numbered
 bins-run = refl
 
-pub one-judged : judged 1 circuitWords oneRow ≡ Failed Bin 263 264
+pub one-judged : judged 1 circuitWords oneRow ≡ Failed Bin 263 (counts 264 0)
 unfolding judged constraints fromEach bins
 one-judged =
-    ap (λ (rs : List Row). run (met (cycleOf 1 oneRow)) 0 (constraints 1 rs)) words-read
-    ∙ run-stops (met (cycleOf 1 oneRow)) (inCycles 0 1 bins) (inCycles 0 1 (ofRelation Fld circuitRows)) 0
-    (run-stops (met (cycleOf 1 oneRow)) (map (inCycle 0) bins) [] 0 (cycle-says (cycleOf 1 oneRow) 2048 0 one-view bins bins-told bins-run))
+    ap (λ (rs : List Row). run (met (cycleOf 1 oneRow)) none (constraints 1 rs)) words-read
+    ∙ run-stops (met (cycleOf 1 oneRow)) (inCycles 0 1 bins) (inCycles 0 1 (ofRelation Fld circuitRows)) none
+    (run-stops (met (cycleOf 1 oneRow)) (map (inCycle 0) bins) [] none (cycle-says (cycleOf 1 oneRow) 2048 0 one-view bins bins-told bins-run))
 
 pub p5 : (scratch : List ℕ) → scratchFits (length scratch) ≡ true
-    → checked 1 circuitWords oneRow scratch ≡ record { answer = Judged (Failed Bin 263 264); scratch = replicate (length scratch) 0 }
+    → checked 1 circuitWords oneRow scratch ≡ record { answer = Judged (Failed Bin 263 (counts 264 0)); scratch = replicate (length scratch) 0 }
 p5 scratch s =
     checked-is oneRow scratch (length-set {A = ℕ} (replicate ROW-WORDS 0) 4096 1 ∙ length-replicate {A = ℕ} ROW-WORDS 0) s
     ∙ ap (λ v. record { answer = Judged v; scratch = replicate (length scratch) 0 }) one-judged

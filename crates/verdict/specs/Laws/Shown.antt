@@ -19,9 +19,11 @@ use Rattle.circuit.specs.Valid.{validated}
 use Rattle.circuit.specs.Found.{rowsACycle, found}
 use Rattle.circuit.specs.Batched.{batchRow, unmappedRow}
 use Rattle.circuit.specs.Laws.BatchRows.{back-of-row}
+use Rattle.verdict.specs.declared.Counts.{Counts}
 use Rattle.verdict.specs.declared.Verdict.{Verdict}
 use Rattle.verdict.specs.declared.Verdict.the-variants.{Accepted, Failed}
 use Rattle.verdict.specs.Row.{cycleOf, holds}
+use Rattle.verdict.specs.Counts.{none}
 use Rattle.verdict.specs.Check.{Constraint, constraints, met, judged}
 use Rattle.verdict.specs.Laws.Run.{Outcome, all-met, one-fails, outcome}
 use Rattle.verdict.specs.Laws.Verdicts.{every-constraint}
@@ -72,14 +74,14 @@ module _ (cpi : ℕ) (listing batch : List ℕ) (size : allowed cpi ≡ true) (f
       }
 
   abbrev NamedBy : Verdict → Type 0
-  NamedBy (Accepted rows) = Unit
-  NamedBy (Failed rel b rows) = Names cpi listing batch rel b
+  NamedBy (Accepted n) = Unit
+  NamedBy (Failed rel b n) = Names cpi listing batch rel b
 
   named-by : NamedBy (judged cpi listing batch)
   unfolding judged
-  named-by = by-outcome (outcome (met (cycleOf cpi batch)) (constraints cpi (rowsOf listing)) 0)
+  named-by = by-outcome (outcome (met (cycleOf cpi batch)) (constraints cpi (rowsOf listing)) none)
     where
-      by-outcome : Outcome (met (cycleOf cpi batch)) 0 (constraints cpi (rowsOf listing)) (judged cpi listing batch)
+      by-outcome : Outcome (met (cycleOf cpi batch)) none (constraints cpi (rowsOf listing)) (judged cpi listing batch)
           → NamedBy (judged cpi listing batch)
       by-outcome (all-met p e) = subst NamedBy (sym e) tt
       by-outcome (one-fails f) =
@@ -87,5 +89,5 @@ module _ (cpi : ℕ) (listing batch : List ℕ) (size : allowed cpi ≡ true) (f
           subst NamedBy (sym (f .says)) (names (f .first) (h .0) (f .fails))
 
   -- so a row asked for with the verdict's relation, row and cycle is the one that failed
-  pub failed-names : {rel : Relation} {b rows : ℕ} → judged cpi listing batch ≡ Failed rel b rows → Names cpi listing batch rel b
+  pub failed-names : {rel : Relation} {b : ℕ} {n : Counts} → judged cpi listing batch ≡ Failed rel b n → Names cpi listing batch rel b
   failed-names e = subst NamedBy e named-by

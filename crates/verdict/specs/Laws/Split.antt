@@ -15,14 +15,13 @@ use Rattle.layout.specs.Questions.{no}
 use Rattle.layout.specs.Laws.Questions.{answered}
 use Rattle.circuit.specs.declared.Relation.the-variants.{Bin, Fld}
 use Rattle.circuit.specs.Words.{kindOf, sideOf, isMark, flagOf, relationOf}
-use Rattle.circuit.specs.Rows.{Row}
+use Rattle.circuit.specs.Rows.{Row, ofRelation}
 use Rattle.circuit.specs.Parse.{inFront, parse, rowsOf}
 use Rattle.circuit.specs.Found.{until}
 use Rattle.circuit.specs.Valid.{orderOf, validFrom, validated}
 use Rattle.circuit.specs.Laws.Search.{until-le}
 use Rattle.circuit.specs.Laws.Valid.{Passed, passed-word}
 use Rattle.verdict.specs.RowParts.{sorted, termOf, rowOf}
-use Rattle.verdict.specs.Check.{ofRelation}
 use Rattle.verdict.specs.Order.{isFldMark}
 use Rattle.verdict.specs.Laws.RowParts.{parse-mark, parse-term, rows-mark, rows-term}
 use Rattle.verdict.specs.Laws.Order.{valid-rows}

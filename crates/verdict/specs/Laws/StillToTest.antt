@@ -1,6 +1,6 @@
 -- What is left to be tested, from one loop to the next, and the verdict from there on.
 -- Assumes nothing.
-use mathlib.Core.Path.{_≡_, sym, ap, _∙_}
+use mathlib.Core.Path.{_≡_, sym, ap, ap₂, _∙_}
 use mathlib.Core.Bool.{Bool, true, false, cond}
 use mathlib.Core.List.{List, [], _∷_, _++_, map, append-assoc}
 use Prim.Native.Nat.{ℕ, _+_, _<_, _≤_}
@@ -12,12 +12,15 @@ use lib.ListN.{length, getD, drop, drop-of-length-le}
 use lib.Seq.{drop-cons}
 use Rattle.base.specs.Laws.Tests.{passed, refused}
 use Rattle.base.specs.Laws.From.{each-step, each-end}
+use Rattle.circuit.specs.declared.Relation.{Relation}
 use Rattle.circuit.specs.Words.{isMark}
 use Rattle.circuit.specs.Parse.{parse, rowsOf}
 use Rattle.circuit.specs.Batched.{batchRow}
+use Rattle.verdict.specs.declared.Counts.{Counts}
 use Rattle.verdict.specs.declared.Verdict.{Verdict}
 use Rattle.verdict.specs.declared.Verdict.the-variants.{Failed}
 use Rattle.verdict.specs.Promises.{RowEnds}
+use Rattle.verdict.specs.Counts.{counted}
 use Rattle.verdict.specs.Check.{Constraint, inCycle, run}
 use Rattle.verdict.specs.StillToTest.{partAt, allParts, inPart, leftCycles, leftRows, rowAt}
 use Rattle.verdict.specs.Laws.RowParts.{rows-mark}
@@ -65,16 +68,19 @@ module _ (cpi : ℕ) (bin fld : List ℕ) where
 
 -- ---- the verdict from there on
 
-module _ (test : Constraint → Bool) (n : ℕ) where
+module _ (test : Constraint → Bool) (n : Counts) where
   -- carried along an equation of what is left
   pub along : {ks ls : List Constraint} {v : Verdict} → ks ≡ ls → run test n ks ≡ v → run test n ls ≡ v
   along e h = ap (run test n) (sym e) ∙ h
 
   module _ {k : Constraint} {ks ls : List Constraint} {v : Verdict} (e : ks ≡ k ∷ ls) (h : run test n ks ≡ v) where
-    pub run-on : test k ≡ true → run test (n + 1) ls ≡ v
+    pub run-on : {m : Counts} → m ≡ counted (k .row .relation) n → test k ≡ true → run test m ls ≡ v
     unfolding run
-    run-on m = passed _ _ _ m ∙ along e h
+    run-on more t = ap (λ (i : Counts). run test i ls) more ∙ passed _ _ _ t ∙ along e h
 
-    pub run-stop : test k ≡ false → Failed (k .row .relation) (batchRow (k .row .relation) (k .cycle) (k .row .number)) (n + 1) ≡ v
+    pub run-stop : {rel : Relation} {row : ℕ} {m : Counts} → rel ≡ k .row .relation → row ≡ batchRow rel (k .cycle) (k .row .number)
+        → m ≡ counted rel n → test k ≡ false → Failed rel row m ≡ v
     unfolding run
-    run-stop m = refused _ _ _ m ∙ along e h
+    run-stop {rel} of row-is more t =
+        ap₂ (Failed rel) row-is more ∙ ap (λ (q : Relation). Failed q (batchRow q (k .cycle) (k .row .number)) (counted q n)) of
+        ∙ refused _ _ _ t ∙ along e h

@@ -1,14 +1,13 @@
 -- What a verdict says, for whoever builds on it: acceptance is that every row holds in every cycle; a cycle that fails gives the verdict,
 -- and the cycles before it count. What a failure names, Run says.
 -- Assumes nothing.
-use mathlib.Core.Path.{_≡_, refl, sym, ap, ap₂, _∙_}
+use mathlib.Core.Path.{_≡_, sym, ap, _∙_}
 use mathlib.Core.Logic.{_↔_}
 use mathlib.Core.Bool.{Bool, true, false, cond}
 use mathlib.Core.List.{List, [], _∷_, map}
-use Prim.Native.Nat.{ℕ, zero, suc, _+_, _*_, _<_, _≤_}
-use native.Mathlib.Nat.{suc-mul, mul-add}
+use Prim.Native.Nat.{ℕ, zero, suc, _+_, _<_, _≤_}
 use native.Mathlib.Omega.{arith}
-use lib.ListN.{length, length-append, length-map, replicate}
+use lib.ListN.{length, replicate}
 use Rattle.base.specs.Lists.{All, fromEach}
 use Rattle.base.specs.Laws.Tests.{passed}
 use Rattle.base.specs.Laws.Lists.{all-append, all-left, all-right, all-map}
@@ -18,61 +17,44 @@ use Rattle.layout.specs.Batch.{allowed, batchWords, scratchFits}
 use Rattle.layout.specs.Laws.Questions.{if-yes, yes-batch}
 use Rattle.circuit.specs.declared.Relation.{Relation}
 use Rattle.circuit.specs.declared.Relation.the-variants.{Bin, Fld}
-use Rattle.circuit.specs.Rows.{Row}
+use Rattle.circuit.specs.Rows.{Row, sameRelation, ofRelation}
 use Rattle.circuit.specs.Parse.{rowsOf}
 use Rattle.circuit.specs.Valid.{validated}
+use Rattle.verdict.specs.declared.Counts.{Counts}
 use Rattle.verdict.specs.declared.Verdict.the-variants.{Accepted, Failed}
 use Rattle.verdict.specs.declared.CheckAnswer.the-variants.{Judged}
-use Rattle.verdict.specs.Check.{Constraint, inCycle, sameRelation, ofRelation, inCycles, constraints, met, run, judged, asked, after, checked}
+use Rattle.verdict.specs.Counts.{none, everyRow}
+use Rattle.verdict.specs.Check.{Constraint, inCycle, inCycles, constraints, met, run, judged, asked, after, checked}
 use Rattle.verdict.specs.Row.{cycleOf, holds}
-use Rattle.verdict.specs.Laws.Run.{run-past, run-met, met-run, run-stops, run-later, later}
+use Rattle.verdict.specs.Laws.Counts.{plus, none-plus, plus-assoc, tally, tally-append, tally-all}
+use Rattle.verdict.specs.Laws.Run.{run-past, run-met, met-run, run-stops, run-from, later}
 
 -- ---- the constraints
 
-pub count-cycles : (rs : List Row) (n d : ℕ) → length (inCycles d n rs) ≡ n * length rs
-unfolding fromEach
-count-cycles rs zero d = omega arith
-count-cycles rs (suc n) d =
-    length-append (map (inCycle d) rs) (inCycles (suc d) n rs)
-    ∙ ap₂ _+_ (length-map rs (inCycle d)) (count-cycles rs n (suc d)) ∙ omega (arith, suc-mul n (length rs))
-
 -- rows in n cycles from s on: where all hold in the cycles before s + d, and cycle s + d fails, that is the verdict, and the cycles before
 -- it count
-pub cycle-fails : (test : Constraint → Bool) (rs : List Row) (n s d m : ℕ) {rel : Relation} {row rows : ℕ} → d < n
+pub cycle-fails : (test : Constraint → Bool) (rs : List Row) (n s d : ℕ) (m : Counts) {rel : Relation} {row : ℕ} {c : Counts} → d < n
     → ((e : ℕ) → s ≤ e → e < s + d → All (λ r. test (inCycle e r) ≡ true) rs)
-    → run test 0 (map (inCycle (s + d)) rs) ≡ Failed rel row rows → run test m (inCycles s n rs) ≡ Failed rel row (m + d * length rs + rows)
-unfolding fromEach
+    → run test none (map (inCycle (s + d)) rs) ≡ Failed rel row c
+    → run test m (inCycles s n rs) ≡ Failed rel row (plus m (plus (tally (inCycles s d rs)) c))
+unfolding fromEach tally
 cycle-fails test rs zero s d m h held fails = absurd (omega arith)
-cycle-fails test rs (suc n) s zero m {rel} {row} {rows} h held fails =
+cycle-fails test rs (suc n) s zero m {rel} {row} {c} h held fails =
     run-stops test (map (inCycle s) rs) (inCycles (suc s) n rs) m
-    (ap (λ (i : ℕ). run test i (map (inCycle s) rs)) (omega arith) ∙ run-later test (map (inCycle s) rs) m 0
-    ∙ ap (later m) (ap (λ (e : ℕ). run test 0 (map (inCycle e) rs)) (omega arith) ∙ fails) ∙ ap (Failed rel row) (omega arith))
-cycle-fails test rs (suc n) s (suc d) m {rel} {row} h held fails =
+    (run-from test (map (inCycle s) rs) m
+    ∙ ap (later m) (ap (λ (e : ℕ). run test none (map (inCycle e) rs)) (omega arith) ∙ fails)
+    ∙ ap (λ (k : Counts). Failed rel row (plus m k)) (sym (none-plus c)))
+cycle-fails test rs (suc n) s (suc d) m {rel} {row} {c} h held fails =
+    let here = tally (map (inCycle s) rs) in let between = tally (inCycles (suc s) d rs) in
     run-past test (map (inCycle s) rs) (inCycles (suc s) n rs) m
     (all-map (λ k. test k ≡ true) (inCycle s) rs .1 (held s (omega arith) (omega arith)))
-    ∙ cycle-fails test rs n (suc s) d (m + length (map (inCycle s) rs)) (omega arith) (λ e l u. held e (omega arith) (omega arith))
-    (ap (λ (e : ℕ). run test 0 (map (inCycle e) rs)) (omega arith) ∙ fails)
-    ∙ ap (Failed rel row) (omega (arith, length-map rs (inCycle s), suc-mul d (length rs)))
-
--- a row is of one relation or the other
-count-relations : (rs : List Row) → length (ofRelation Bin rs) + length (ofRelation Fld rs) ≡ length rs
-unfolding ofRelation
-count-relations [] = refl
-count-relations (r ∷ rs) = by-relation (r .relation) (count-relations rs)
-  where
-    by-relation : (rel : Relation) → length (ofRelation Bin rs) + length (ofRelation Fld rs) ≡ length rs
-        → length (cond (sameRelation rel Bin) (r ∷ ofRelation Bin rs) (ofRelation Bin rs))
-        + length (cond (sameRelation rel Fld) (r ∷ ofRelation Fld rs) (ofRelation Fld rs)) ≡ suc (length rs)
-    by-relation Bin e = omega arith
-    by-relation Fld e = omega arith
-
--- as many as there are cycles and rows
-pub constraint-count : (cpi : ℕ) (rs : List Row) → length (constraints cpi rs) ≡ cpi * length rs
-unfolding constraints
-constraint-count cpi rs =
-    length-append (inCycles 0 cpi (ofRelation Bin rs)) (inCycles 0 cpi (ofRelation Fld rs))
-    ∙ ap₂ _+_ (count-cycles (ofRelation Bin rs) cpi 0) (count-cycles (ofRelation Fld rs) cpi 0)
-    ∙ sym (mul-add cpi (length (ofRelation Bin rs)) (length (ofRelation Fld rs))) ∙ ap (λ n. cpi * n) (count-relations rs)
+    ∙ cycle-fails test rs n (suc s) d (plus m here) (omega arith) (λ e l u. held e (omega arith) (omega arith))
+    (ap (λ (e : ℕ). run test none (map (inCycle e) rs)) (omega arith) ∙ fails)
+    ∙ ap (Failed rel row)
+    (plus-assoc m here (plus between c)
+    ∙ ap (plus m)
+    (sym (plus-assoc here between c)
+    ∙ ap (λ (k : Counts). plus k c) (sym (tally-append (map (inCycle s) rs) (inCycles (suc s) d rs)))))
 
 module _ (P : Row → Type 0) where
   all-of : (rel : Relation) (rs : List Row) → All P rs → All P (ofRelation rel rs)
@@ -125,18 +107,18 @@ module _ (cpi : ℕ) (listing batch : List ℕ) where
   abbrev pub EveryRowHolds : Type 0
   EveryRowHolds = (d : ℕ) → d < cpi → All (λ r. holds (cycleOf cpi batch d) (r .sides) ≡ true) (rowsOf listing)
 
-  pub accepts : EveryRowHolds → judged cpi listing batch ≡ Accepted (cpi * length (rowsOf listing))
+  pub accepts : EveryRowHolds → judged cpi listing batch ≡ Accepted (everyRow cpi (rowsOf listing))
   unfolding judged
   accepts h =
-      run-met (met (cycleOf cpi batch)) (constraints cpi (rowsOf listing)) 0
+      run-met (met (cycleOf cpi batch)) (constraints cpi (rowsOf listing)) none
       (every-constraint (λ k. met (cycleOf cpi batch) k ≡ true) cpi (rowsOf listing) .1 h)
-      ∙ ap Accepted (omega (arith, constraint-count cpi (rowsOf listing)))
+      ∙ ap Accepted (none-plus (tally (constraints cpi (rowsOf listing))) ∙ tally-all cpi (rowsOf listing))
 
-  pub accepted : (n : ℕ) → judged cpi listing batch ≡ Accepted n → EveryRowHolds
+  pub accepted : (n : Counts) → judged cpi listing batch ≡ Accepted n → EveryRowHolds
   unfolding judged
   accepted n e =
       every-constraint (λ k. met (cycleOf cpi batch) k ≡ true) cpi (rowsOf listing) .0
-      (met-run (met (cycleOf cpi batch)) (constraints cpi (rowsOf listing)) 0 n e)
+      (met-run (met (cycleOf cpi batch)) (constraints cpi (rowsOf listing)) none n e)
 
 -- ---- the check as it is called: where every question is answered with yes, it is the verdict, and zeros in the scratch
 pub answered-yes : (cpi : ℕ) (listing batch scratch : List ℕ) → allowed cpi ≡ true → validated listing ≡ Yes

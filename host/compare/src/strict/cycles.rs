@@ -1,4 +1,4 @@
-//! Cycles with chosen flags that meet the ten conditions, and batches of such cycles.
+//! Cycles with chosen flags that meet the ten conditions, or all but one, and batches of such cycles.
 
 use super::flags::{Flags, CHOICES};
 use crate::filler::conditions::{Cycle, LD_BYTE, LD_HALF, LD_WORD, LOAD, STORE};
@@ -9,13 +9,16 @@ use crate::verdict::batches::Batch;
 
 /// A cycle with these five flags, those of arithmetic, shift and WE drawn.
 pub fn with_flags(numbers: &mut Numbers, flags: Flags, output: u128) -> Cycle {
-    let wanted = Wanted {
+    wanted(numbers, flags, 0, output).make(numbers)
+}
+
+fn wanted(numbers: &mut Numbers, flags: Flags, broken: usize, output: u128) -> Wanted {
+    Wanted {
         setting: setting(numbers, flags),
         off: numbers.below(8) as u32,
-        broken: 0,
+        broken,
         output,
-    };
-    wanted.make(numbers)
+    }
 }
 
 fn setting(numbers: &mut Numbers, flags: Flags) -> u32 {
@@ -55,4 +58,30 @@ pub fn accepted(numbers: &mut Numbers, cpi: usize) -> Batch {
     };
     let cycles: Vec<Cycle> = (0..cpi).map(cycle).collect();
     filled(numbers, &cycles, output)
+}
+
+/// The same, but for one cycle in which condition k is not met. That it fails is for the caller to see.
+pub fn broken(numbers: &mut Numbers, cpi: usize, k: usize) -> Batch {
+    let output = output(numbers);
+    let breaker = numbers.below(cpi as u64) as usize;
+    let cycle = |d| {
+        if d == breaker {
+            return breaking(numbers, k, output);
+        }
+        let flags = right_flags(numbers);
+        with_flags(numbers, flags, output)
+    };
+    let cycles: Vec<Cycle> = (0..cpi).map(cycle).collect();
+    filled(numbers, &cycles, output)
+}
+
+/// A cycle with right flags, to which condition k applies and which does not meet it.
+fn breaking(numbers: &mut Numbers, k: usize, output: u128) -> Cycle {
+    loop {
+        let flags = right_flags(numbers);
+        let wanted = wanted(numbers, flags, k, output);
+        if wanted.can_be() {
+            return wanted.make(numbers);
+        }
+    }
 }

@@ -3,14 +3,15 @@
 
 use super::cycles::accepted;
 use super::judges::{of_both, Judges};
-use super::rows::{BYTE, HALF, LOAD, ROWS, STORE, WORD};
+use super::rows::{BIN_ROWS, BYTE, HALF, LOAD, STORE, WORD};
 use crate::columns::SIZES;
 use crate::filler::derived::{derived, DERIVED};
 use crate::filler::filled::one_col;
+use crate::listing::FLD_ROWS;
 use crate::numbers::Numbers;
 use crate::parallel::in_parts;
 use crate::report::{test, Tally, Test};
-use crate::verdict::answer::Verdict;
+use crate::verdict::answer::{Counts, Verdict};
 use crate::verdict::batches::{self, batch_column, Batch, COLUMNS};
 use crate::verdict::each_column::CHANGES;
 use crate::verdict::named::Named;
@@ -100,7 +101,11 @@ fn zero(tally: &mut Tally) {
         let verdict = judges
             .judge(tally, &mut desk, &mut Batch::zero(cpi), &place)
             .strict;
-        tally.same(place, verdict, Verdict::Accepted { rows: ROWS * cpi });
+        let counts = Counts {
+            bin: BIN_ROWS * cpi,
+            fld: FLD_ROWS * cpi,
+        };
+        tally.same(place, verdict, Verdict::Accepted { counts });
     }
 }
 

@@ -32,28 +32,94 @@ pub const PACKED_LENGTH: u64 = 18;
 /// Document 02's, asked after 18.
 pub const LOWER_BIT: u64 = 17;
 
-/// Which rows were tested and what came of it.
+/// Where the two counts stand in a verdict's number. Each has 20 bits, and so has the batch row.
+const BIN_COUNT: u32 = 20;
+const FLD_COUNT: u32 = 40;
+
+/// Rows of each relation.
+#[derive(Clone, Copy, Debug, Default, PartialEq, Eq)]
+pub struct Counts {
+    pub bin: usize,
+    pub fld: usize,
+}
+
+impl Counts {
+    /// Their sum: what `rows` means in the bench sheet and in document 02's requests before 7.
+    pub fn rows(self) -> usize {
+        self.bin + self.fld
+    }
+
+    /// Counts one row more.
+    pub fn add(&mut self, relation: Relation) {
+        match relation {
+            Relation::Bin => self.bin += 1,
+            Relation::Fld => self.fld += 1,
+        }
+    }
+
+    /// Both, once for each cycle.
+    pub fn times(self, cpi: usize) -> Counts {
+        Counts {
+            bin: self.bin * cpi,
+            fld: self.fld * cpi,
+        }
+    }
+
+    fn number(self) -> u64 {
+        (self.fld as u64) << FLD_COUNT | (self.bin as u64) << BIN_COUNT
+    }
+}
+
+/// How many rows were tested and what came of it.
 #[derive(Clone, Copy, Debug, PartialEq, Eq)]
 pub enum Verdict {
     Accepted {
-        rows: usize,
+        counts: Counts,
     },
     Failed {
         relation: Relation,
         batch_row: usize,
-        rows: usize,
+        counts: Counts,
     },
 }
 
 impl Verdict {
     pub fn number(self) -> u64 {
         match self {
-            Verdict::Accepted { rows } => rows as u64,
+            Verdict::Accepted { counts } => counts.number(),
             Verdict::Failed {
                 relation,
                 batch_row,
-                rows,
-            } => FAILED | (relation as u64) << 61 | (rows as u64) << 32 | batch_row as u64,
+                counts,
+            } => FAILED | (relation as u64) << 61 | counts.number() | batch_row as u64,
+        }
+    }
+
+    /// The verdict that a number stands for. A refusal is none, nor is a number with a bit set that
+    /// stands for nothing.
+    pub fn read(number: u64) -> Option<Verdict> {
+        let from = |lowest: u32| (number >> lowest & 0xf_ffff) as usize;
+        let batch_row = from(0);
+        let counts = Counts {
+            bin: from(BIN_COUNT),
+            fld: from(FLD_COUNT),
+        };
+        let failed = |relation| Verdict::Failed {
+            relation,
+            batch_row,
+            counts,
+        };
+        match number >> 60 {
+            0b0000 if batch_row == 0 => Some(Verdict::Accepted { counts }),
+            0b0100 => Some(failed(Relation::Bin)),
+            0b0110 => Some(failed(Relation::Fld)),
+            _ => None,
+        }
+    }
+
+    pub fn counts(self) -> Counts {
+        match self {
+            Verdict::Accepted { counts } | Verdict::Failed { counts, .. } => counts,
         }
     }
 

@@ -192,7 +192,7 @@ fn lengthen(listing: &mut Listing, holds: bool) {
     assert_eq!(listing.words().len(), MOST_WORDS);
 }
 
-/// No row accepts with 0 rows; every mark without terms accepts and counts.
+/// No row accepts with both counts 0; every mark without terms accepts and counts.
 fn without_terms(tally: &mut Tally) {
     for cpi in SIZES {
         for marks in [0, MARKS] {

@@ -48,16 +48,26 @@ pub fn same(tally: &mut Tally, batch: &mut Batch, verdict: Verdict, place: &dyn 
     }
 }
 
+/// What the C boundary counts of a row, if it accepts it.
+pub fn rows_told(z: &[Gf128]) -> Option<usize> {
+    match cellprism::check_row(&bytes_of(z)) {
+        Answer::Accepted { rows } => Some(rows as usize),
+        _ => None,
+    }
+}
+
 fn bytes_of(z: &[Gf128]) -> Vec<u8> {
     z.iter()
         .flat_map(|element| element.0.to_le_bytes())
         .collect()
 }
 
-/// What the C boundary tells of a verdict: no count with a failure.
+/// What the C boundary tells of a verdict: the sum of the counts, and none with a failure.
 fn told(verdict: Verdict) -> Answer {
     match verdict {
-        Verdict::Accepted { rows } => Answer::Accepted { rows: rows as u32 },
+        Verdict::Accepted { counts } => Answer::Accepted {
+            rows: counts.rows() as u32,
+        },
         Verdict::Failed {
             relation,
             batch_row,

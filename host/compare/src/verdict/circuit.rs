@@ -1,6 +1,6 @@
 //! Batches of every size against the circuit's own listing.
 
-use super::answer::Verdict;
+use super::answer::{Counts, Verdict};
 use super::batches::{self, Batch, COLUMNS, ONE_COLUMN};
 use super::boundary;
 use super::judge::{Desk, Judge, OF_A_VERDICT};
@@ -70,11 +70,13 @@ fn same_listing(tally: &mut Tally) {
 fn bench_sheet(tally: &mut Tally) {
     let judge = Judge::of_circuit(1);
     let mut desk = Desk::of(&judge.listing, Numbers::for_test(27));
-    let p4 = Verdict::Accepted { rows: 514 };
+    let p4 = Verdict::Accepted {
+        counts: Counts { bin: 483, fld: 31 },
+    };
     let p5 = Verdict::Failed {
         relation: Relation::Bin,
         batch_row: 263,
-        rows: 264,
+        counts: Counts { bin: 264, fld: 0 },
     };
     let mut batch = Batch::zero(1);
     for (name, one, right) in [("P4", 0, p4), ("P5", 1, p5)] {

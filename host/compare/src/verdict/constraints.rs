@@ -4,7 +4,7 @@
 use std::array::from_fn;
 use std::mem::take;
 
-use super::answer::Verdict;
+use super::answer::{Counts, Verdict};
 use super::batches::WITNESS_COLUMNS;
 use super::listings::Row;
 use crate::house::{Relation, Term};
@@ -54,18 +54,20 @@ impl Constraints {
         }
     }
 
+    /// Each constraint is counted as it is tested, under its own relation.
     pub fn verdict(&self, z: &[Gf128]) -> Verdict {
-        let fails = |constraint: &Constraint| !constraint.holds(z);
-        match self.in_order.iter().position(fails) {
-            None => Verdict::Accepted {
-                rows: self.in_order.len(),
-            },
-            Some(before) => Verdict::Failed {
-                relation: self.in_order[before].relation,
-                batch_row: self.in_order[before].batch_row,
-                rows: before + 1,
-            },
+        let mut counts = Counts::default();
+        for constraint in &self.in_order {
+            counts.add(constraint.relation);
+            if !constraint.holds(z) {
+                return Verdict::Failed {
+                    relation: constraint.relation,
+                    batch_row: constraint.batch_row,
+                    counts,
+                };
+            }
         }
+        Verdict::Accepted { counts }
     }
 }
 

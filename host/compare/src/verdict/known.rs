@@ -3,7 +3,7 @@
 
 pub use product::Known;
 
-use super::answer::Verdict;
+use super::answer::{Counts, Verdict};
 use super::judge::Judge;
 use super::listings::Listing;
 use crate::house::Relation;
@@ -45,23 +45,32 @@ pub fn judge(known: Known, cpi: usize) -> Judge {
 }
 
 /// The verdict on a batch whose first row that does not hold is this one, if there is one. Every row before
-/// it is counted: all bin, then all fld; inside each by cycle, then row.
+/// it is counted, and itself: all bin, then all fld; inside each by cycle, then row.
 pub fn verdict(known: Known, cpi: usize, first: Option<(Relation, usize)>) -> Verdict {
-    let rows_of = |relation| rows_of(known, relation);
+    let all = |relation| cpi * rows_of(known, relation);
     let Some((relation, batch_row)) = first else {
-        return Verdict::Accepted {
-            rows: cpi * (rows_of(Relation::Bin) + rows_of(Relation::Fld)),
+        let counts = Counts {
+            bin: all(Relation::Bin),
+            fld: all(Relation::Fld),
         };
-    };
-    let before = match relation {
-        Relation::Bin => 0,
-        Relation::Fld => cpi * rows_of(Relation::Bin),
+        return Verdict::Accepted { counts };
     };
     let padded = relation.padded_rows();
     let (cycle, row) = (batch_row / padded, batch_row % padded);
+    let to_there = cycle * rows_of(known, relation) + row + 1;
+    let counts = match relation {
+        Relation::Bin => Counts {
+            bin: to_there,
+            fld: 0,
+        },
+        Relation::Fld => Counts {
+            bin: all(Relation::Bin),
+            fld: to_there,
+        },
+    };
     Verdict::Failed {
         relation,
         batch_row,
-        rows: before + cycle * rows_of(relation) + row + 1,
+        counts,
     }
 }

@@ -3,6 +3,7 @@
 use std::array::from_fn;
 use std::ops::Range;
 
+use super::answer::Counts;
 use super::batches::{COLUMNS, ONE_COLUMN};
 use crate::house::{self, Coefficient, Relation, Term, Word};
 use crate::listing;
@@ -190,25 +191,38 @@ pub fn shape(numbers: &mut Numbers) -> Shape {
 /// Any rows with any terms.
 pub fn random(numbers: &mut Numbers, shape: Shape) -> Listing {
     let row = |numbers: &mut Numbers| from_fn(|_| terms(numbers, shape.terms_of_a_side));
-    rows_with(numbers, shape.marks, row)
+    let marks = some_marks(numbers, shape.marks);
+    rows_with(numbers, marks, row)
 }
 
 /// Rows that hold on any batch whose columns `ones` are 1 in every cycle, whatever else it holds.
 pub fn holding(numbers: &mut Numbers, shape: Shape, ones: &[usize]) -> Listing {
     let row = |numbers: &mut Numbers| holding_sides(numbers, shape.terms_of_a_side, ones);
-    rows_with(numbers, shape.marks, row)
+    let marks = some_marks(numbers, shape.marks);
+    rows_with(numbers, marks, row)
+}
+
+/// The same, with so many rows of each relation.
+pub fn holding_of_each(
+    numbers: &mut Numbers,
+    rows: Counts,
+    terms_of_a_side: u64,
+    ones: &[usize],
+) -> Listing {
+    let row = |numbers: &mut Numbers| holding_sides(numbers, terms_of_a_side, ones);
+    let marks = marks_of_each(numbers, rows);
+    rows_with(numbers, marks, row)
 }
 
 /// Rows of so many terms, shared out between the sides. About half of the rows are of bin, and which
 /// are is drawn.
 pub fn of_lengths(numbers: &mut Numbers, lengths: &[usize]) -> Listing {
     let fld = lengths.len() / 2;
-    let mut marks = some_of(numbers, lengths.len() - fld, 0..512);
-    marks.extend(some_of(numbers, fld, 512..MARKS));
+    let bin = lengths.len() - fld;
+    let marks = marks_of_each(numbers, Counts { bin, fld });
     let first = numbers.below(lengths.len() as u64) as usize;
     let lengths = lengths[first..].iter().chain(&lengths[..first]);
-    let row = |(index, &length)| {
-        let (relation, row) = mark(index);
+    let row = |((relation, row), &length)| {
         let sides = shared_out(numbers, length);
         Row {
             relation,
@@ -240,10 +254,10 @@ pub fn spoil(numbers: &mut Numbers, listing: &mut Listing) {
 
 fn rows_with(
     numbers: &mut Numbers,
-    marks: usize,
+    marks: Vec<Mark>,
     mut sides: impl FnMut(&mut Numbers) -> [Vec<Term>; 3],
 ) -> Listing {
-    let rows = some_marks(numbers, marks)
+    let rows = marks
         .into_iter()
         .map(|(relation, row)| Row {
             relation,
@@ -257,6 +271,13 @@ fn rows_with(
 /// `count` of the marks there can be, in order.
 fn some_marks(numbers: &mut Numbers, count: usize) -> Vec<Mark> {
     let chosen = some_of(numbers, count, 0..MARKS);
+    chosen.into_iter().map(mark).collect()
+}
+
+/// So many of those of each relation, in order.
+fn marks_of_each(numbers: &mut Numbers, rows: Counts) -> Vec<Mark> {
+    let mut chosen = some_of(numbers, rows.bin, 0..512);
+    chosen.extend(some_of(numbers, rows.fld, 512..MARKS));
     chosen.into_iter().map(mark).collect()
 }
 

@@ -2,6 +2,7 @@
 
 pub mod answer;
 mod any_listing;
+mod apart;
 pub mod batches;
 mod bits;
 pub mod boundary;
@@ -37,6 +38,7 @@ pub fn tests() -> Vec<Test> {
     tests.extend(each_column::tests());
     tests.extend(any_listing::tests());
     tests.extend(one_word::tests());
+    tests.extend(apart::tests());
     tests.extend(packing::tests());
     tests.extend(refusals::tests());
     tests.extend(scratch::tests());
@@ -54,5 +56,6 @@ pub fn batches_judged() -> usize {
         + each_column::batches_judged()
         + any_listing::batches_judged()
         + one_word::batches_judged()
+        + apart::batches_judged()
         + scratch::batches_judged()
 }

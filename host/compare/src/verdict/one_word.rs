@@ -107,7 +107,7 @@ impl Circuit {
         };
         let mut rows = self.listing.rows.iter().zip(&other.rows);
         let Some((own, row)) = rows.find(|(own, other)| own != other) else {
-            // The last row is left out, or there is one more: the count says so.
+            // The last row is left out, or there is one more: fld's count says so.
             return choice(start, None, true);
         };
         let differing = Constraint::of_row(row);

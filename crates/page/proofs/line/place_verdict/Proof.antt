@@ -9,7 +9,7 @@ use Rattle.page.proofs.line.place_verdict.Tie as tie
 returns : tie.Need-returns
 returns c =
     let q = c .before .before in let p = q .before .before .before .before in
-    rw (p .before .before .before .before .v .given .1) (placed-then (omega arith) (p .place .ensures) (q .place-rows .ensures))
+    rw (p .before .before .before .before .v .given .1) (placed-then (omega arith) (p .place .ensures) (q .place-counts .ensures))
 
 returns-2 : tie.Need-returns-2
 returns-2 c =
@@ -19,7 +19,7 @@ returns-2 c =
     (placed-then (omega arith)
     (placed-then (omega arith) (placed-then (omega arith) (p .place-failed .ensures .0) (d .place-decimal .ensures .0))
     (q .place2 .ensures))
-    (r .place-rows2 .ensures))
+    (r .place-counts2 .ensures))
 
 pub place-verdict-spec : {M : Type 1} → statement M
 place-verdict-spec =

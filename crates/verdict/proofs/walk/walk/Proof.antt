@@ -15,6 +15,7 @@ use Rattle.circuit.specs.Parse.{rowsOf}
 use Rattle.circuit.specs.Found.{until}
 use Rattle.layout.specs.Laws.Sizes.{allowed-range}
 use Rattle.verdict.specs.RowParts.{sorted}
+use Rattle.verdict.specs.Counts.{none}
 use Rattle.verdict.specs.Check.{inCycles, constraints, met, judged, run}
 use Rattle.verdict.specs.Order.{isFldMark}
 use Rattle.verdict.specs.Laws.Split.{Split, InOrder, in-order}
@@ -79,7 +80,7 @@ returns c =
     let b = c .before .before .before in let a = b .before .before .before .args in let e = b .first-fld .ensures in
     let o = in-order _ (b .before .before .before .pre .1 .1) in
     c .walk-parts .ensures
-    ∙ ap (run (met (cycleOf (a .cpi) (now (a .batch)))) 0)
+    ∙ ap (run (met (cycleOf (a .cpi) (now (a .batch)))) none)
     (ap (λ f. allParts (a .cpi) (take (b .first-fld .result) (now (a .listing))) f 0) (tail (now (a .listing)) (b .first-fld .result))
     ∙ same-constraints (a .cpi) (now (a .listing)) (b .first-fld .result) (subst (Split (now (a .listing))) (sym e) (o .halves)))
 

@@ -61,8 +61,8 @@ const DESCRIPTION: &str = "\
 # t: opcode, funct3, RS1, RS2, and 0 for no branch, 1 taken, 2 not taken, 3 reserved: so document 02; the original says not taken there.
 # 0: all elements of the batch become 0. s: column, low, high. w: 40 columns from one on, so far apart, hold the bits of a word.
 # Z: all lent words become 0. W: as w, for the lent words. r: lent words from one on, at most seven, and 0 for those left out.
-# k: cpi, the verdict on the batch against the house listing (0 accepted, 1 fails in bin, 2 in fld), batch row, rows; or 3 and a
-# refusal's number.
+# k: cpi, the verdict on the batch against the house listing (0 accepted, 1 fails in bin, 2 in fld), batch row, rows tested in bin, rows
+# tested in fld; or 3 and a refusal's number.
 # v: public words, words of the row, the answer, 0 or a refusal; the row of the lent record (words 0 to 1d), ROM row (1e to 25) and
 # public words (from 40 on) is the batch that is set up.
 # j: cpi, words of the cycles (lent from 0 on), public words (from 4000 on), words of the batch, the answer; it is the batch that is
@@ -94,7 +94,7 @@ fn main() {
     println!("# From here on the check's refusals, the bit test, the step conditions, batches that the original makes and the filler");
     println!("# fills, rows' sums and the listing reader.");
     for cpi in [0, 3, 0x101] {
-        println!("k {cpi:x} 3 {:x} 0", answer::SIZE);
+        println!("k {cpi:x} 3 {:x} 0 0", answer::SIZE);
     }
     steps::bits();
     steps::conditions();
@@ -284,26 +284,26 @@ fn put(column: usize, element: Gf128) {
 }
 
 fn verdict(spec: &CircuitSpec, z: &[Gf128], cpi: usize) {
-    let [cpi, kind, row, rows] = judged(spec, z, cpi);
-    println!("k {cpi:x} {kind:x} {row:x} {rows:x}");
+    let [cpi, kind, row, bin, fld] = judged(spec, z, cpi);
+    println!("k {cpi:x} {kind:x} {row:x} {bin:x} {fld:x}");
 }
 
 /// The original's verdict, and the first row of its matrices that does not hold: the numbers of a line k.
-fn judged(spec: &CircuitSpec, z: &[Gf128], cpi: usize) -> [u64; 4] {
+fn judged(spec: &CircuitSpec, z: &[Gf128], cpi: usize) -> [u64; 5] {
     let bin = first_failing([&spec.a_bin, &spec.b_bin, &spec.c_bin], z);
     let fld = first_failing([&spec.a_fld, &spec.b_fld, &spec.c_fld], z);
     let said = check_row(spec, z).err();
-    let (kind, row, rows) = match (bin, fld) {
-        (Some(row), _) => (1, row, tested(row, 512, BIN_ROWS)),
-        (None, Some(row)) => (2, row, BIN_ROWS * cpi + tested(row, 32, FLD_ROWS)),
-        (None, None) => (0, 0, (BIN_ROWS + FLD_ROWS) * cpi),
+    let (kind, row, bin, fld) = match (bin, fld) {
+        (Some(row), _) => (1, row, tested(row, 512, BIN_ROWS), 0),
+        (None, Some(row)) => (2, row, BIN_ROWS * cpi, tested(row, 32, FLD_ROWS)),
+        (None, None) => (0, 0, BIN_ROWS * cpi, FLD_ROWS * cpi),
     };
     assert_eq!(
         said,
         [None, Some("bin"), Some("fld")][kind],
         "the original's check and its matrices disagree"
     );
-    [cpi, kind, row, rows].map(|number| number as u64)
+    [cpi, kind, row, bin, fld].map(|number| number as u64)
 }
 
 fn first_failing([a, b, c]: [&SparseMatrix; 3], z: &[Gf128]) -> Option<usize> {

@@ -74,13 +74,22 @@ fn checks() {
     let spec = build_circuit_batched(1);
     let mut z = accepted_batches(1).swap_remove(0);
     set_up(&z, 1);
-    let [_, kind, _, rows] = judged(&spec, &z, 1);
+    let accepted = judged(&spec, &z, 1);
     // The row of a batch that is accepted is not looked at.
-    changed("k", &[1, kind, 0, rows], 1..2);
-    changed("k", &[1, kind, 0, rows], 3..4);
+    changed("k", &accepted, 1..2);
+    changed("k", &accepted, 3..5);
+    counted_elsewhere(accepted);
     z[0] = z[0] + ONE;
     put(0, z[0]);
-    changed("k", &judged(&spec, &z, 1), 1..4);
+    let failed = judged(&spec, &z, 1);
+    changed("k", &failed, 1..5);
+    counted_elsewhere(failed);
+}
+
+/// One row of bin counted as one of fld: the sum is right.
+fn counted_elsewhere([cpi, kind, row, bin, fld]: [u64; 5]) {
+    let (bin, fld) = (bin - 1, fld + 1);
+    println!("k {cpi:x} {kind:x} {row:x} {bin:x} {fld:x}");
 }
 
 /// The check's refusals, the bit test, the conditions, the filler, a row's sums, the reader; and lines that are none.
@@ -102,7 +111,7 @@ fn no_room() {
     println!("s {:x} 1 0", most / 2);
     println!("r {:x} 0", most - 6);
     println!("W {:x} 1 0", most / 2 - 63);
-    println!("k 8 3 {BATCH_LENGTH:x} 0");
+    println!("k 8 3 {BATCH_LENGTH:x} 0 0");
     println!("q 8 {:x} {length:x}", 2 * most);
     println!("u 8 {:x} 0 {length:x}", 2 * most);
     println!("f 8 {:x} {length:x}", 2 * most);
@@ -121,7 +130,7 @@ fn no_room() {
 fn batches(z: &[Gf128]) {
     let words = words_in(1) as u64;
     let no_size = refusal(SIZE).answer();
-    changed("k", &[3, 3, SIZE, 0], 1..3);
+    changed("k", &[3, 3, SIZE, 0, 0], 1..3);
     changed("q", &[1, words, 0], 2..3);
     changed("q", &[3, words, no_size], 2..3);
     changed("u", &[1, words, 0, 0], 3..4);
