@@ -30,6 +30,7 @@ unfoldable pub numbered : Relation → ℕ → List Sides → List Row
 numbered rel n [] = []
 numbered rel n (s ∷ ss) = record { relation = rel; number = n; sides = s } ∷ numbered rel (suc n) ss
 
+-- are two relations the same?
 abbrev pub sameRelation : Relation → Relation → Bool
 sameRelation Bin Bin = true
 sameRelation Fld Fld = true

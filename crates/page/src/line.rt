@@ -1,4 +1,4 @@
-// The line that an answer is printed as. The longest has three numbers of 20 digits, and 86 bytes.
+// The line that an answer is printed as. Each of its numbers is given room for 20 digits, so 86 bytes are enough.
 use circuit::Relation;
 use verdict::CheckAnswer;
 use verdict::Counts;

@@ -7,7 +7,7 @@ ghost use Rattle.text.specs.Put.{Placed};
 ghost use Rattle.page.specs.Line.{answerLine};
 ghost use Rattle.cellprism.specs.Answer.{rowChecked};
 
-// Puts the line of the verdict at the start, and gives how many bytes it has. The longest has three numbers of 20 digits.
+// Puts the line of the verdict at the start, and gives how many bytes it has. Each of its numbers is given room for 20 digits.
 fn answer(row: &[u8], out: &mut [u8]) -> usize
     requires { ⌜ 86 ≤ length (now out) ⌝ }
     ensures { λ r. ⌜ Placed 0 (answerLine (rowChecked (now (row .entry)))) (now (out .entry)) (now (out .exit)) r ⌝ }

@@ -31,6 +31,7 @@ rowsIn listing rel = length (ofRelation rel (rowsOf listing))
 abbrev pub inRelation : ℕ → List ℕ → Relation → List Constraint
 inRelation cpi listing rel = inCycles 0 cpi (ofRelation rel (rowsOf listing))
 
+-- how many of them are tested in a batch
 abbrev pub testedIn : ℕ → List ℕ → List Constraint → ℕ
 testedIn cpi batch ks = tested (met (cycleOf cpi batch)) ks
 
@@ -44,5 +45,6 @@ pub record CountedApart (cpi : ℕ) (listing batch : List ℕ) (v : Verdict) : T
   -- then bin has counted every row in every cycle, and fld counts what is tested in fld
   pub in-fld : (row : ℕ) (n : Counts) → v ≡ Failed Fld row n
       → (n .bin ≡ cpi * rowsIn listing Bin) × (n .fld ≡ testedIn cpi batch (inRelation cpi listing Fld))
-  -- accepted: every row in every cycle, in both
+  -- accepted: every row in every cycle, in both; together they are all rows of the listing
   pub accepted : (n : Counts) → v ≡ Accepted n → (n .bin ≡ cpi * rowsIn listing Bin) × (n .fld ≡ cpi * rowsIn listing Fld)
+  pub accepted-sum : (n : Counts) → v ≡ Accepted n → rows n ≡ cpi * length (rowsOf listing)

@@ -16,6 +16,7 @@ use Rattle.verdict.specs.declared.Verdict.the-variants.{Accepted, Failed
 abbrev pub counts : ℕ → ℕ → Counts
 counts b f = record { bin = b; fld = f }
 
+-- before anything is tested
 abbrev pub none : Counts
 none = counts 0 0
 

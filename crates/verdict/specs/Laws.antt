@@ -5,7 +5,7 @@
 --     ColumnAlone       one column alone: where the others are 0, what rows say is told by a test that computes
 --     Counted           bin and fld are counted apart in every verdict and of every call
 --     Counts            counts add up relation by relation; what constraints count, and that their number is the sum
---     Known             what every row of every cycle counts, over a listing that is known by name
+--     Known             what the rows of a listing that is known by name count
 --     LaterCycles       failing verdicts of every cycle of every size, with their numbers written out
 --     Named             a row's outcome depends on the columns that its terms of nonzero coefficient name, and on nothing else
 --     Order             a listing that passes questions 6 to 10 is in order: the sides of each row ascend
@@ -13,7 +13,7 @@
 --     Row               a bit of a cycle, read from the batch
 --     RowParts          what parsing gives of a row is what its runs of terms give
 --     RowsFound         in a listing in order every row is the one that the search finds by its relation and row number
---     Run               the walk over constraints, for any test: all are met, or which is the first that is not, and the count
+--     Run               the walk over constraints, for any test: all are met, or which is the first that is not, and the counts
 --     Scratch           the check's answer is the same from any scratch that fits; what is left there; given calls
 --     Sheet             P4 and P5 of the bench sheet, of the check's own result
 --     Shown             what a failing verdict names: the cycle, the row that the search finds, and that it does not hold there

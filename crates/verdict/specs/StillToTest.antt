@@ -1,4 +1,4 @@
--- What is left of the check at each of its loops. The verdict from there on, with the count so far, is the whole verdict.
+-- What is left of the check at each of its loops. The verdict from there on, with the counts so far, is the whole verdict.
 -- Assumes nothing.
 use mathlib.Core.Bool.{cond}
 use mathlib.Core.List.{List, _++_, map}

@@ -17,15 +17,18 @@ use Rattle.circuit.specs.Rows.{Row, numbered, ofRelation}
 use Rattle.circuit.specs.Circuit.{binFamilies, fldFamilies, circuitRows, circuitWords}
 use Rattle.circuit.specs.Parse.{rowsOf}
 use Rattle.circuit.specs.Laws.House.{words-read}
-use Rattle.verdict.specs.declared.CheckAnswer.the-variants.{Refused}
+use Rattle.verdict.specs.declared.Verdict.{Verdict}
+use Rattle.verdict.specs.declared.CheckAnswer.the-variants.{Judged, Refused}
 use Rattle.verdict.specs.Row.{cycleOf}
 use Rattle.strict.specs.declared.Known.the-variants.{House}
 use Rattle.verdict.specs.Counts.{counts, none, rows}
 use Rattle.verdict.specs.Check.{Constraint, constraints, met, run, judged, knownChecked}
 use Rattle.verdict.specs.Laws.Run.{Outcome, all-met, one-fails, outcome}
 use Rattle.verdict.specs.Laws.Counts.{plus, none-plus, rows-counted, tally, rows-tally, tally-all}
+use Rattle.verdict.specs.Counted.{CountedApart}
+use Rattle.verdict.specs.Laws.Counted.{known-counted}
 use Rattle.verdict.specs.Laws.Known.{every-known}
-use Rattle.cellprism.specs.Bytes.{wordsOf}
+use Rattle.cellprism.specs.Bytes.{wordsOf, rowOf}
 use Rattle.cellprism.specs.Answer.{rowChecked}
 use Rattle.cellprism.specs.Exact.{batchRowOf, Small, Exact}
 use Rattle.cellprism.specs.Laws.Packing.{row-asked}
@@ -85,3 +88,12 @@ exact bytes = by-test (eqb (length bytes) 65536)
     by-test : (b : Bool) → Exact (cond b (knownChecked House 1 (wordsOf ROW-WORDS bytes)) (Refused (no 2 0)))
     by-test true = subst Exact (if-yes Refused _ (row-asked bytes)) (judged-small (wordsOf ROW-WORDS bytes))
     by-test false = refl
+
+-- bin and fld are counted apart from bytes too
+pub row-counted : (bytes : List ℕ) (v : Verdict) → rowChecked bytes ≡ Judged v → CountedApart 1 circuitWords (rowOf bytes) v
+unfolding rowChecked
+row-counted bytes v = by-test (eqb (length bytes) 65536)
+  where
+    by-test : (b : Bool) → cond b (knownChecked House 1 (rowOf bytes)) (Refused (no 2 0)) ≡ Judged v → CountedApart 1 circuitWords (rowOf bytes) v
+    by-test true e = known-counted House 1 (rowOf bytes) v e
+    by-test false e = let z : _≡_ {A = ℕ} 0 1 = cc in absurd (omega arith)

@@ -13,6 +13,7 @@ use Rattle.layout.specs.Batch.{ROW-WORDS}
 use Rattle.circuit.specs.declared.Relation.the-variants.{Bin}
 use Rattle.verdict.specs.declared.Verdict.the-variants.{Accepted, Failed}
 use Rattle.verdict.specs.declared.CheckAnswer.the-variants.{Judged, Refused}
+use Rattle.strict.specs.declared.Known.the-variants.{House}
 use Rattle.verdict.specs.Counts.{counts}
 use Rattle.verdict.specs.Sheet.{oneRow}
 use Rattle.verdict.specs.Laws.Sheet.{zeros-accepted, one-judged}
@@ -44,7 +45,7 @@ pub zero-bytes : rowChecked (replicate 65536 0) ≡ Judged (Accepted (counts 483
 zero-bytes =
     ap rowChecked (sym (bytes-of-zeros ROW-WORDS))
     ∙ row-judged (replicate ROW-WORDS 0) (zeros-fit ROW-WORDS) (length-replicate {A = ℕ} ROW-WORDS 0)
-    ∙ ap Judged (zeros-accepted 1 ROW-WORDS)
+    ∙ ap Judged (zeros-accepted House 1 ROW-WORDS)
 
 -- ---- P5: only the one column 1, whose lowest byte is byte 16 * 2048
 

@@ -21,11 +21,14 @@ use Rattle.layout.specs.Laws.Scratch.{someScratch, some-fits}
 use Rattle.layout.specs.Batch.{batchWords}
 use Rattle.strict.specs.declared.Known.{Known}
 use Rattle.strict.specs.Known.{listingOf}
+use Rattle.verdict.specs.declared.Verdict.{Verdict}
 use Rattle.verdict.specs.declared.CheckAnswer.{CheckAnswer}
 use Rattle.verdict.specs.declared.CheckAnswer.the-variants.{Judged, Refused}
 use Rattle.verdict.specs.Row.{elementAt}
 use Rattle.verdict.specs.Check.{judged, checked, knownChecked}
+use Rattle.verdict.specs.Counted.{CountedApart}
 use Rattle.verdict.specs.Laws.Agree.{known-agrees}
+use Rattle.verdict.specs.Laws.Counted.{known-counted}
 use Rattle.step.specs.Strict.{ConditionsOf}
 use Rattle.step.specs.Derived.{derivedIn}
 use Rattle.step.specs.Filling.{SameElsewhere, fillerBits, filled}
@@ -162,3 +165,16 @@ module _ (k : Known) (cpi : ℕ) (before : List ℕ) {q : Asked} {batch : List �
       subst (λ (u : List ℕ). Promised k cpi before x u) (sym (y .1))
       (subst (λ (z : CheckAnswer). Promised k cpi before z (filled cpi before)) (sym (f ∙ ap (knownChecked k cpi) (y .1)))
       (fill-promised k cpi before fit (y .0)))
+
+-- ---- bin and fld are counted apart here too, over the batch that is left
+pub fill-counted : (k : Known) (cpi : ℕ) (batch : List ℕ) (v : Verdict) → fillChecked k cpi batch .answer ≡ Judged v
+    → CountedApart cpi (listingOf k) (fillChecked k cpi batch .batch) v
+unfolding fillChecked
+fill-counted k cpi batch v = by-answer (called cpi batch .answer)
+  where
+    left : List ℕ
+    left = called cpi batch .batch
+
+    by-answer : (q : Asked) → answerAfter k cpi q left ≡ Judged v → CountedApart cpi (listingOf k) left v
+    by-answer Yes e = known-counted k cpi left v e
+    by-answer (No r) e = let z : _≡_ {A = ℕ} 0 1 = cc in absurd (omega arith)

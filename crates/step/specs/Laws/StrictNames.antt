@@ -30,7 +30,8 @@ use Rattle.verdict.specs.Row.{cycleOf, holds, bitsOf}
 use Rattle.verdict.specs.OverBits.{sumBits}
 use Rattle.verdict.specs.Counts.{counts, none, counted}
 use Rattle.verdict.specs.Check.{inCycle, inCycles, constraints, met, run, judged, checked}
-use Rattle.verdict.specs.Laws.Counts.{plus, ofOne, tally, tally-numbered, tally-cycles}
+use Rattle.verdict.specs.Laws.Counts.{plus, ofOne, tally, tally-numbered}
+use Rattle.verdict.specs.Laws.Known.{tally-known}
 use Rattle.verdict.specs.Laws.Run.{run-past, run-stops}
 use Rattle.verdict.specs.Laws.Verdicts.{cycle-fails, answered-yes}
 use Rattle.step.specs.Step.{Step}
@@ -49,6 +50,8 @@ use Rattle.step.specs.Laws.Listings.{allReadGiven, same-further, listed}
 use Rattle.step.specs.Laws.Strict.{meaning}
 use Rattle.step.specs.Laws.Chosen.{withOne, premises-of}
 use Rattle.step.specs.Laws.StrictFlags.{flagBits, flagged, ten-met, there, idle-there, bits-there}
+use Rattle.circuit.specs.Laws.House as house
+use Rattle.strict.specs.Laws.Strict as strict
 
 -- which of the rows is the first that a cycle's bits break: as many as there are where none is
 unfoldable pub firstBroken : (ℕ → Bool) → List Sides → ℕ
@@ -99,15 +102,9 @@ addedBins : List Row
 addedBins = numbered Bin 483 flagRows
 
 -- by one computed test
-record Computed : Type 0 where
-  bins-are : ofRelation Bin strictRows ≡ houseBins ++ addedBins
-  house-count : length (joined binFamilies) ≡ 483
-  bin-count : length (houseBins ++ addedBins) ≡ 491
-  flags-count : length flagRows ≡ 8
-
-computed : Computed
+bins-are : ofRelation Bin strictRows ≡ houseBins ++ addedBins
 unfolding houseBins addedBins ofRelation strictRows flagRows binFamilies fldFamilies from fromEach joined numbered
-computed = record { bins-are = refl; house-count = refl; bin-count = refl; flags-count = refl }
+bins-are = refl
 
 -- ---- the verdict
 
@@ -155,7 +152,7 @@ module _ (cpi : ℕ) (size : allowed cpi ≡ true) (w : List ℕ) (p : Premises 
     unfolding houseBins addedBins
     cycle-breaks l =
         let same = same-broken _ _ (given e inside) flagRows (listed Strict .read-given) in
-        let few : firstBroken (bitsOf cpi W e) flagRows < length flagRows = omega (arith, same, computed .flags-count) in
+        let few : firstBroken (bitsOf cpi W e) flagRows < length flagRows = omega (arith, same, strict.counts .added-rows) in
         ap (run (met view) none) (map-append (inCycle e) houseBins addedBins)
         ∙ run-past (met view) (map (inCycle e) houseBins) (map (inCycle e) addedBins) none
         (all-map (λ k. met view k ≡ true) (inCycle e) houseBins .1 (house-hold e inside ten))
@@ -163,20 +160,20 @@ module _ (cpi : ℕ) (size : allowed cpi ≡ true) (w : List ℕ) (p : Premises 
         few
         ∙ ap₂ (Failed Bin) (ap (λ (i : ℕ). 512 * e + (483 + i)) same)
         (ap₂ (λ (n : Counts) (i : ℕ). plus (plus none n) (ofOne Bin (i + 1)))
-        (tally-numbered Bin e 0 (joined binFamilies) ∙ ap (ofOne Bin) (computed .house-count)) same ∙ ap₂ counts (omega arith) refl)
+        (tally-numbered Bin e 0 (joined binFamilies) ∙ ap (ofOne Bin) (house.counts .bin-rows)) same ∙ ap₂ counts (omega arith) refl)
 
     -- the cycles before
     before-e : tally (inCycles 0 e (houseBins ++ addedBins)) ≡ ofOne Bin (e * 491)
     before-e =
-        ap (λ (rs : List Row). tally (inCycles 0 e rs)) (sym (computed .bins-are)) ∙ tally-cycles Bin strictRows e 0
-        ∙ ap (λ (n : ℕ). ofOne Bin (e * n)) (ap length (computed .bins-are) ∙ computed .bin-count)
+        ap (λ (rs : List Row). tally (inCycles 0 e rs)) (sym bins-are)
+        ∙ ap (λ (rs : List Row). tally (inCycles 0 e (ofRelation Bin rs))) (sym words-read) ∙ tally-known Strict Bin e
 
     named-row : j < 8 → judged cpi strictWords W ≡ Failed Bin (512 * e + 483 + j) (counts (491 * e + 484 + j) 0)
     unfolding judged constraints
     named-row l =
         ap (λ (rs : List Row). run (met view) none (constraints cpi rs)) words-read
         ∙ run-stops (met view) (inCycles 0 cpi (ofRelation Bin strictRows)) (inCycles 0 cpi (ofRelation Fld strictRows)) none
-        (ap (λ (rs : List Row). run (met view) none (inCycles 0 cpi rs)) (computed .bins-are)
+        (ap (λ (rs : List Row). run (met view) none (inCycles 0 cpi rs)) bins-are
         ∙ cycle-fails (met view) (houseBins ++ addedBins) cpi 0 e none inside (λ d _ m. all-hold d (omega arith) (before d (omega arith)))
         (ap (λ (k : ℕ). run (met view) none (map (inCycle k) (houseBins ++ addedBins))) (omega arith) ∙ cycle-breaks l))
         ∙ ap₂ (Failed Bin) (omega arith)

@@ -20,6 +20,8 @@ use Rattle.circuit.specs.Rows.{Row, sameRelation, ofRelation}
 use Rattle.circuit.specs.Circuit.{circuitWords}
 use Rattle.circuit.specs.Parse.{rowsOf}
 use Rattle.strict.specs.declared.Known.{Known}
+use Rattle.strict.specs.declared.Known.the-variants.{House, Strict}
+use Rattle.strict.specs.Rows.{strictWords}
 use Rattle.strict.specs.Known.{listingOf}
 use Rattle.verdict.specs.declared.Counts.{Counts}
 use Rattle.verdict.specs.declared.Verdict.{Verdict}
@@ -29,13 +31,13 @@ use Rattle.verdict.specs.Row.{cycleOf}
 use Rattle.verdict.specs.Counts.{counts, none, counted, rows, countsOf}
 use Rattle.verdict.specs.Check.{Constraint, constraints, met, failedAt, run, Checked, judged, asked, checked, knownChecked}
 use Rattle.verdict.specs.Counted.{tested, inRelation, rowsIn, testedIn, CountedApart}
-use Rattle.verdict.specs.Laws.Counts.{plus, plus-none, none-plus, counted-first, rows-counted, ofOne, counted-one, tally, tally-cycles}
+use Rattle.verdict.specs.Laws.Counts.{plus, plus-none, none-plus, counted-first, rows-counted, rows-every, ofOne, counted-one, tally, tally-cycles}
 use Rattle.verdict.specs.Laws.Run.{run-past, met-run, run-stops}
 use Rattle.verdict.specs.Laws.Verdicts.{in-cycles}
 use Rattle.verdict.specs.Sheet.{oneRow}
 use Rattle.verdict.specs.Laws.Scratch.{told}
-use Rattle.verdict.specs.Laws.Sheet.{p5}
-use Rattle.verdict.specs.Laws.LaterCycles.{last}
+use Rattle.verdict.specs.Laws.Sheet.{zeros-accepted, p5}
+use Rattle.verdict.specs.Laws.LaterCycles.{bin-judged, fld-judged, last}
 
 -- ---- the walk: its counts add up to what is tested
 
@@ -166,7 +168,7 @@ module _ (cpi : ℕ) (listing batch : List ℕ) where
 
   pub counted-apart : CountedApart cpi listing batch (judged cpi listing batch)
   counted-apart =
-      record { sum = all-tested; bin = bin ends; in-bin = λ row n. in-bin row n ends; in-fld = λ row n. in-fld row n ends; accepted = λ n. accepted n ends }
+      record { sum = all-tested; bin = bin ends; in-bin = λ row n. in-bin row n ends; in-fld = λ row n. in-fld row n ends; accepted = λ n. accepted n ends; accepted-sum = accepted-sum }
     where
       v : Verdict
       v = judged cpi listing batch
@@ -193,6 +195,10 @@ module _ (cpi : ℕ) (listing batch : List ℕ) where
       accepted n (none-fails p s) e =
           (ap (λ (w : Verdict). countsOf w .bin) (sym e ∙ p), ap (λ (w : Verdict). countsOf w .fld) (sym e ∙ p))
 
+      accepted-sum : (n : Counts) → v ≡ Accepted n → rows n ≡ cpi * length (rowsOf listing)
+      accepted-sum n e =
+          let h = accepted n ends e in ap₂ _+_ (h .0) (h .1) ∙ rows-every cpi (rowsOf listing)
+
 -- ---- so of every call that answers with a verdict
 
 -- a verdict behind questions is the verdict
@@ -215,7 +221,7 @@ known-counted k cpi batch v e =
     subst (CountedApart cpi (listingOf k) batch) (told-verdict (batchAsked cpi (length batch)) (judged cpi (listingOf k) batch) v e)
     (counted-apart cpi (listingOf k) batch)
 
--- ---- given batches: what is tested, by numbers
+-- ---- given batches: what is tested and what is counted, by numbers
 
 pub record GivenTested : Type 0 where
   -- one cycle, only the one column 1: bin row 263 fails
@@ -245,3 +251,27 @@ given-tested =
 
     two : CountedApart 2 circuitWords (set (replicate 16384 0) 1794 1) (Failed Fld 34 (counts 966 34))
     two = call-counted 2 circuitWords _ least _ (ap (λ (c : Checked). c .answer) (last least refl .fld-2))
+
+-- the counts of verdicts on two cycles by their names: all zero, over either listing; fld row 2 of the second cycle; bin row 295 of it
+pub record GivenCounts : Type 0 where
+  pub house-bin : countsOf (judged 2 circuitWords (replicate 16384 0)) .bin ≡ 966
+  pub house-fld : countsOf (judged 2 circuitWords (replicate 16384 0)) .fld ≡ 62
+  pub strict-bin : countsOf (judged 2 strictWords (replicate 16384 0)) .bin ≡ 982
+  pub strict-fld : countsOf (judged 2 strictWords (replicate 16384 0)) .fld ≡ 62
+  pub in-fld-bin : countsOf (judged 2 circuitWords (set (replicate 16384 0) 1794 1)) .bin ≡ 966
+  pub in-fld-fld : countsOf (judged 2 circuitWords (set (replicate 16384 0) 1794 1)) .fld ≡ 34
+  pub in-bin-bin : countsOf (judged 2 circuitWords (set (replicate 16384 0) 3714 1)) .bin ≡ 779
+  pub in-bin-fld : countsOf (judged 2 circuitWords (set (replicate 16384 0) 3714 1)) .fld ≡ 0
+
+pub given-counts : GivenCounts
+given-counts =
+    record {
+      house-bin = ap (λ (v : Verdict). countsOf v .bin) (zeros-accepted House 2 16384);
+      house-fld = ap (λ (v : Verdict). countsOf v .fld) (zeros-accepted House 2 16384);
+      strict-bin = ap (λ (v : Verdict). countsOf v .bin) (zeros-accepted Strict 2 16384);
+      strict-fld = ap (λ (v : Verdict). countsOf v .fld) (zeros-accepted Strict 2 16384);
+      in-fld-bin = ap (λ (v : Verdict). countsOf v .bin) (fld-judged 2 1 (omega arith));
+      in-fld-fld = ap (λ (v : Verdict). countsOf v .fld) (fld-judged 2 1 (omega arith));
+      in-bin-bin = ap (λ (v : Verdict). countsOf v .bin) (bin-judged 2 1 (omega arith));
+      in-bin-fld = ap (λ (v : Verdict). countsOf v .fld) (bin-judged 2 1 (omega arith));
+    }

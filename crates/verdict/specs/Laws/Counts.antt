@@ -4,7 +4,7 @@ use mathlib.Core.Path.{_≡_, refl, sym, ap, ap₂, _∙_}
 use mathlib.Core.Bool.{cond}
 use mathlib.Core.List.{List, [], _∷_, _++_, map}
 use Prim.Native.Nat.{ℕ, zero, suc, _+_, _*_}
-use native.Mathlib.Nat.{add-zero, zero-add, suc-mul}
+use native.Mathlib.Nat.{add-zero, zero-add, suc-mul, mul-add}
 use native.Mathlib.Omega.{arith}
 use lib.ListN.{length}
 use Rattle.base.specs.Lists.{fromEach}
@@ -107,6 +107,22 @@ tally-cycles rel rs (suc n) d =
     ∙ ap₂ plus (tally-rows rel d rs) (tally-cycles rel rs n (suc d))
     ∙ plus-one rel (length (ofRelation rel rs)) (n * length (ofRelation rel rs))
     ∙ ap (ofOne rel) (omega (arith, suc-mul n (length (ofRelation rel rs))))
+
+-- a row is of one relation or the other, so together they are all rows
+count-relations : (rs : List Row) → length (ofRelation Bin rs) + length (ofRelation Fld rs) ≡ length rs
+unfolding ofRelation
+count-relations [] = refl
+count-relations (r ∷ rs) = by-relation (r .relation) (count-relations rs)
+  where
+    by-relation : (rel : Relation) → length (ofRelation Bin rs) + length (ofRelation Fld rs) ≡ length rs
+        → length (cond (sameRelation rel Bin) (r ∷ ofRelation Bin rs) (ofRelation Bin rs))
+        + length (cond (sameRelation rel Fld) (r ∷ ofRelation Fld rs) (ofRelation Fld rs)) ≡ suc (length rs)
+    by-relation Bin e = omega arith
+    by-relation Fld e = omega arith
+
+pub rows-every : (cpi : ℕ) (rs : List Row) → rows (everyRow cpi rs) ≡ cpi * length rs
+rows-every cpi rs =
+    sym (mul-add cpi (length (ofRelation Bin rs)) (length (ofRelation Fld rs))) ∙ ap (λ (n : ℕ). cpi * n) (count-relations rs)
 
 -- all of a batch: as many of each relation as there are cycles and rows of it
 pub tally-all : (cpi : ℕ) (rs : List Row) → tally (constraints cpi rs) ≡ everyRow cpi rs

@@ -25,7 +25,6 @@ use Rattle.circuit.specs.Batched.{batchRow}
 use Rattle.circuit.specs.Laws.House.{words-read, in-order}
 use Rattle.strict.specs.declared.Known.the-variants.{House}
 use Rattle.strict.specs.Known.{rowsEach}
-use Rattle.strict.specs.Laws.Known.{row-count}
 use Rattle.verdict.specs.declared.Counts.{Counts}
 use Rattle.verdict.specs.declared.Verdict.{Verdict}
 use Rattle.verdict.specs.declared.Verdict.the-variants.{Accepted, Failed}
@@ -36,7 +35,8 @@ use Rattle.verdict.specs.Check.{inCycle, inCycles, constraints, met, run
 use Rattle.verdict.specs.Named.{named}
 use Rattle.verdict.specs.OverBits.{plain, sumBits}
 use Rattle.verdict.specs.Laws.Run.{Met, run-stops, run-past, met-run}
-use Rattle.verdict.specs.Laws.Counts.{plus, none-plus, ofOne, tally, tally-cycles}
+use Rattle.verdict.specs.Laws.Counts.{plus, none-plus, ofOne, tally}
+use Rattle.verdict.specs.Laws.Known.{tally-known}
 use Rattle.verdict.specs.Laws.Verdicts.{in-cycles, cycle-fails, answered-yes}
 use Rattle.verdict.specs.Laws.ColumnAlone.{holds-zero, testAlone, allTold, cycle-says}
 use Rattle.verdict.specs.Laws.Sheet.{element-alone}
@@ -125,11 +125,10 @@ module _ (cpi c d : ℕ) (hc : c < 2048) (hd : d < cpi) where
 -- the rows of n cycles of a relation
 before : (rel : Relation) (n : ℕ) → tally (inCycles 0 n (ofRelation rel circuitRows)) ≡ ofOne rel (n * rowsEach House rel)
 before rel n =
-    tally-cycles rel circuitRows n 0
-    ∙ ap (λ (m : ℕ). ofOne rel (n * m)) (sym (ap (λ (rs : List Row). length (ofRelation rel rs)) words-read) ∙ row-count House rel)
+    ap (λ (rs : List Row). tally (inCycles 0 n (ofRelation rel rs))) (sym words-read) ∙ tally-known House rel n
 
 -- CA of cycle d alone: bin row 295, the first gate of the loads by lane
-bin-judged : (cpi d : ℕ) → d < cpi → judged cpi circuitWords (alone cpi 928 d) ≡ Failed Bin (512 * d + 295) (counts (483 * d + 296) 0)
+pub bin-judged : (cpi d : ℕ) → d < cpi → judged cpi circuitWords (alone cpi 928 d) ≡ Failed Bin (512 * d + 295) (counts (483 * d + 296) 0)
 unfolding judged constraints bins
 bin-judged cpi d h =
     ap (λ (rs : List Row). run (met (cycleOf cpi (alone cpi 928 d))) none (constraints cpi rs)) words-read
@@ -154,7 +153,7 @@ bins-met cpi d h = in-cycles (λ k. met view k ≡ true) bins cpi 0 .1 (λ e l u
         (cycle-says view 448 d (alone-view cpi 448 d (omega arith) h) bins (computed .carry-told) (computed .carry-holds))))
     by-test e l false q = other-holds cpi 448 d (omega arith) h e l (eqb-false e d q) bins
 
-fld-judged : (cpi d : ℕ) → d < cpi → judged cpi circuitWords (alone cpi 448 d)
+pub fld-judged : (cpi d : ℕ) → d < cpi → judged cpi circuitWords (alone cpi 448 d)
     ≡ Failed Fld (32 * d + 2) (counts (483 * cpi) (31 * d + 3))
 unfolding judged constraints bins flds
 fld-judged cpi d h =

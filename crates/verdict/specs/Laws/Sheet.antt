@@ -20,7 +20,9 @@ use Rattle.circuit.specs.Rows.{Row, numbered, ofRelation}
 use Rattle.circuit.specs.Circuit.{binFamilies, fldFamilies, circuitRows, circuitWords}
 use Rattle.circuit.specs.Parse.{rowsOf}
 use Rattle.circuit.specs.Laws.House.{words-read, in-order}
+use Rattle.strict.specs.declared.Known.{Known}
 use Rattle.strict.specs.declared.Known.the-variants.{House}
+use Rattle.strict.specs.Known.{listingOf}
 use Rattle.verdict.specs.declared.Verdict.the-variants.{Accepted, Failed}
 use Rattle.verdict.specs.declared.CheckAnswer.the-variants.{Judged}
 use Rattle.verdict.specs.Row.{elementAt, cycleOf}
@@ -55,19 +57,19 @@ nothing : (n cpi d c : ℕ) → cycleOf cpi (replicate n 0) d c ≡ gf.zero
 unfolding cycleOf
 nothing n cpi d c = ap₂ ofWords (zeros n (2 * columnAt cpi c d)) (zeros n (2 * columnAt cpi c d + 1)) ∙ words-zero
 
--- whatever the batch size
-pub zeros-accepted : (cpi n : ℕ) → judged cpi circuitWords (replicate n 0) ≡ Accepted (everyRowOf House cpi)
-zeros-accepted cpi n =
-    accepts cpi circuitWords (replicate n 0)
-    (λ d h. all-every _ (λ r. holds-zero (cycleOf cpi (replicate n 0) d) (nothing n cpi d) (r .sides)) (rowsOf circuitWords))
-    ∙ ap Accepted (every-known House cpi)
+-- whatever the batch size, over either listing
+pub zeros-accepted : (k : Known) (cpi n : ℕ) → judged cpi (listingOf k) (replicate n 0) ≡ Accepted (everyRowOf k cpi)
+zeros-accepted k cpi n =
+    accepts cpi (listingOf k) (replicate n 0)
+    (λ d h. all-every _ (λ r. holds-zero (cycleOf cpi (replicate n 0) d) (nothing n cpi d) (r .sides)) (rowsOf (listingOf k)))
+    ∙ ap Accepted (every-known k cpi)
 
 pub p4 : (scratch : List ℕ) → scratchFits (length scratch) ≡ true
     → checked 1 circuitWords (replicate ROW-WORDS 0) scratch
     ≡ record { answer = Judged (Accepted (counts 483 31)); scratch = replicate (length scratch) 0 }
 p4 scratch s =
     checked-is (replicate ROW-WORDS 0) scratch (length-replicate {A = ℕ} ROW-WORDS 0) s
-    ∙ ap (λ v. record { answer = Judged v; scratch = replicate (length scratch) 0 }) (zeros-accepted 1 ROW-WORDS)
+    ∙ ap (λ v. record { answer = Judged v; scratch = replicate (length scratch) 0 }) (zeros-accepted House 1 ROW-WORDS)
 
 -- zeros, and 1 in element p: as bits
 pub element-alone : (n p c : ℕ) → 2 * p < n → elementAt (set (replicate n 0) (2 * p) 1) c ≡ ofBit (eqb p c)

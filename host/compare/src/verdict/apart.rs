@@ -1,6 +1,7 @@
 //! Bin and fld counted apart, as document 02, request 7 says it: fld is 0 until bin has passed. The counts
 //! are read from the product's own answers. How many rows a relation has is counted in the words of the
-//! listing, and which relation fails, if one does, the original says.
+//! listing, and which relation fails, if one does, the original says; how many of that relation are tested
+//! up to the row that fails comes from evaluating its matrices row by row.
 
 use std::sync::atomic::{AtomicUsize, Ordering};
 
@@ -110,32 +111,42 @@ fn rows_of(listing: &[u32]) -> Counts {
     rows
 }
 
-/// What is known of a batch without the product: how many rows there are, and what comes of them.
+/// What is known of a batch without the product: how many rows there are, what comes of them, and how
+/// many are tested before that is known.
 #[derive(Clone, Copy)]
 struct Told {
     all: Counts,
     outcome: Outcome,
+    tested: Counts,
 }
 
 impl Told {
-    fn of(listing: &[u32], cpi: usize, outcome: Outcome) -> Told {
+    fn of(listing: &[u32], cpi: usize, outcome: Outcome, tested: Counts) -> Told {
         let all = rows_of(listing).times(cpi);
-        Told { all, outcome }
+        Told {
+            all,
+            outcome,
+            tested,
+        }
     }
 
-    /// The counts as request 7 has them. It leaves open that of the relation that fails, which is
-    /// bounded here: the row that fails is counted, and no row twice.
-    fn as_requested(self, counts: Counts) -> Counts {
-        let Told { all, outcome } = self;
+    /// The counts as request 7 has them; in the relation that fails, document 01's: the failing row is
+    /// the last that is counted.
+    fn as_requested(self) -> Counts {
+        let Told {
+            all,
+            outcome,
+            tested,
+        } = self;
         match outcome {
             None => all,
             Some(Bin) => Counts {
-                bin: counts.bin.max(1).min(all.bin),
+                bin: tested.bin,
                 fld: 0,
             },
             Some(Fld) => Counts {
                 bin: all.bin,
-                fld: counts.fld.max(1).min(all.fld),
+                fld: tested.fld,
             },
         }
     }
@@ -143,8 +154,7 @@ impl Told {
     /// Holds one answer of the product against it.
     fn same(self, tally: &mut Tally, answer: u64, place: &dyn Fn() -> String) {
         let seen = Verdict::read(answer).map(|verdict| (verdict.relation(), verdict.counts()));
-        let counts = seen.map(|(_, counts)| counts).unwrap_or_default();
-        tally.same(place, seen, Some((self.outcome, self.as_requested(counts))));
+        tally.same(place, seen, Some((self.outcome, self.as_requested())));
     }
 }
 
@@ -187,7 +197,12 @@ impl Kind {
 }
 
 fn of_known(tally: &mut Tally, known: Known, cpi: usize, batches: usize) {
-    let Judge { spec, listing, .. } = known::judge(known, cpi);
+    let Judge {
+        spec,
+        constraints,
+        listing,
+        ..
+    } = known::judge(known, cpi);
     let met = Met::default();
     in_parts(tally, batches, |tally, part| {
         let sequence = cpi << 32 | part << 1 | known as usize;
@@ -198,13 +213,14 @@ fn of_known(tally: &mut Tally, known: Known, cpi: usize, batches: usize) {
         met.add(outcome);
 
         let place = || format!("batch {part} of {cpi}, {kind:?}");
-        let told = Told::of(&listing, cpi, outcome);
+        let tested = constraints.verdict(&batch.z).counts();
+        let told = Told::of(&listing, cpi, outcome, tested);
         by_listing(tally, &mut numbers, &listing, &batch, told, &place);
         by_name(tally, known, &batch, told, &place);
         let mut words = batch.words.words().to_vec();
         let answer = product::fill_and_check(known, cpi, &mut words);
         let filled = || format!("{}, filled and checked in one call", place());
-        let told = Told::of(&listing, cpi, kind.filled(outcome));
+        let told = Told::of(&listing, cpi, kind.filled(outcome), tested);
         told.same(tally, answer, &filled);
         if crosses(known, cpi) {
             sum_crosses(tally, &batch, &place);
@@ -311,14 +327,18 @@ fn of_others(tally: &mut Tally, cpi: usize, listings: usize) {
             spoil(&mut numbers, &mut listing, relation);
         }
         let batch = dense(&mut numbers, cpi);
-        let outcome = original::check_row(&listing.spec(cpi), &batch.z);
+        let Judge {
+            spec, constraints, ..
+        } = Judge::of(&listing, cpi);
+        let outcome = original::check_row(&spec, &batch.z);
         met.add(outcome);
 
         let place = || format!("listing {part}, {rows:?} but {spoiled:?}, {cpi} cycles");
         let meant = || format!("{}, as it is meant", place());
         tally.same(meant, outcome, spoiled.iter().min().copied());
         let words = listing.words();
-        let told = Told::of(&words, cpi, outcome);
+        let tested = constraints.verdict(&batch.z).counts();
+        let told = Told::of(&words, cpi, outcome, tested);
         by_listing(tally, &mut numbers, &words, &batch, told, &place);
     });
     met.are_frequent(tally, listings);
