@@ -5,6 +5,7 @@
 --     ColumnAlone       one column alone: where the others are 0, what rows say is told by a test that computes
 --     Counted           bin and fld are counted apart in every verdict and of every call
 --     Counts            counts add up relation by relation; what constraints count, and that their number is the sum
+--     GivenCounts       given batches: how many constraints are tested, and what verdicts count, by numbers
 --     Known             what the rows of a listing that is known by name count
 --     LaterCycles       failing verdicts of every cycle of every size, with their numbers written out
 --     Named             a row's outcome depends on the columns that its terms of nonzero coefficient name, and on nothing else
@@ -27,6 +28,7 @@ pub mod BitTest
 pub mod ColumnAlone
 pub mod Counted
 pub mod Counts
+pub mod GivenCounts
 pub mod Known
 pub mod LaterCycles
 pub mod Named
