@@ -1,4 +1,6 @@
 // What is of no field and no layout, for every crate above: the loops that write words and compare them, for all arguments.
+#![tactic(auto)]
+
 ghost use Rattle.std.specs.Prelude.{true, ◌↔◌, ◌≡◌, length, replicate};
 ghost use Rattle.base.specs.Written.{Written, copied};
 

@@ -1,4 +1,5 @@
 // The C boundary of Cellprism: the check of one row, handed over as bytes and answered by one number.
+#![tactic(auto)]
 mod bytes;
 mod short;
 

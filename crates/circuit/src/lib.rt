@@ -1,5 +1,6 @@
 // The constraint listing: its words, the rows that they stand for, the house listing, its questions, the search for a row, and the
 // listing reader.
+#![tactic(auto)]
 pub mod batch;
 pub mod questions;
 pub mod reader;

@@ -1,6 +1,8 @@
 // GF(2^128) of NIST SP 800-38D: polynomials over GF(2) modulo t^128 + t^7 + t^2 + t + 1, bit i the coefficient of t^i.
 // The words are private and the definitions that the contracts cite are shut: a crate above computes by these methods and
 // reasons by the field's laws (specs/Lib.antt says where each law stands).
+#![tactic(auto)]
+
 ghost use Rattle.std.specs.Prelude.{◌≡◌, cond, ◌/◌, ◌^◌};
 ghost use Rattle.field.specs.Gf.{of_words, low, high, value, element, zero, one, same, is_bit, added, product, shifted, power, odd};
 

@@ -1,4 +1,5 @@
 // The step conditions and the filling.
+#![tactic(auto)]
 mod bits;
 pub mod conditions;
 pub mod derive;

@@ -1,4 +1,6 @@
 // Where things stand: the columns of a cycle, their segments, and the batch that up to 256 cycles share.
+#![tactic(auto)]
+
 pub mod columns;
 pub mod segments;
 

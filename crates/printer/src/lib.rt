@@ -1,4 +1,5 @@
 // Prints the words of a listing, for the programs that do so.
+#![tactic(auto)]
 ghost use Rattle.std.specs.Prelude.{◌≡◌};
 ghost use Rattle.printer.specs.Hex.{line_of};
 

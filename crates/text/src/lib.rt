@@ -1,4 +1,6 @@
 // Text in bytes of ASCII: numbers as digits, and texts put one behind the other into lent bytes.
+#![tactic(auto)]
+
 ghost use Rattle.std.specs.Prelude.{◌≡◌, ◌<◌, ◌+◌, ◌-◌, get_or};
 ghost use Rattle.base.specs.Text.{left};
 ghost use Rattle.text.specs.Digits.{decimal, hex_digit, hex};

@@ -1,4 +1,5 @@
 // Makers and readers of rows: what the prover hands to the check.
+#![tactic(auto)]
 pub mod assembly;
 pub mod branch;
 pub mod records;

@@ -85,5 +85,5 @@ module _ (test : ℕ → Bool) where
       go : (a b : Bool) → ltb f x ≡ a → ltb x f ≡ b → f ≡ x
       go true b p q =
           let m = ltb-true f x p in absurd (true≢false (sym (first_passes n i (omega arith)) ∙ none f (first-from n i) m))
-      go false true p q = absurd (true≢false (sym t ∙ first-least n i x s (omega arith) (ltb-true x f q)))
+      go false true p q = absurd (true≢false (sym t ∙ first-least n i x s (ltb-true x f q)))
       go false false p q = let m = ltb-false f x p in let k = ltb-false x f q in omega arith

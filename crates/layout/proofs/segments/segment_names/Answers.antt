@@ -2,13 +2,9 @@
 -- Assumes nothing.
 use mathlib.Core.Path.{refl}
 use Rattle.layout.specs.Segments.{segments}
-use Rattle.layout.proofs.segments.segment_names.Statement.{statement}
-use Rattle.layout.proofs.segments.segment_names.Tie as tie
 use Rattle.base.specs.Lists.{joined}
+use Rattle.layout.proofs.segments.segment_names.Goals as goal
 
-returns : tie.Need-returns
+pub returns : goal.returns
 unfolding segments joined
 returns c = refl
-
-pub segment_names_spec : {M : Type 1} → statement M
-segment_names_spec = tie.close (tie.spec returns)

@@ -10,14 +10,7 @@ use lib.Dec.{leb, ltb}
 use lib.ListN.{get_or, drop, get_or-map}
 use Rattle.layout.specs.Segments.{Segment, segment, segments, segment_starts, segment_lengths, in_segment, name_in, segment_name, segment_at}
 use Rattle.layout.specs.Laws.Segments.{segments-apart, segments-count, within-at, name-stops, name-goes, name-ends}
-use Rattle.layout.proofs.segments.segment_index.Statement.{statement}
-use Rattle.layout.proofs.segments.segment_index.Tie as tie
-
-abbrev invariant-loop : tie.invariant-loop
-invariant-loop column starts lengths i₀ i = (i ≤ 19) × (name_in (drop i segments) column ≡ segment_name column)
-
-abbrev decreases-loop : tie.decreases-loop
-decreases-loop column starts lengths i₀ i = 19 - i
+use Rattle.layout.proofs.segments.segment_index.Goals as goal
 
 -- what stands at an index of the two arrays is the segment's there
 module _ (starts lengths : List ℕ) (i c : ℕ) (p : starts ≡ segment_starts segments) (q : lengths ≡ segment_lengths segments) where
@@ -33,36 +26,30 @@ module _ (starts lengths : List ℕ) (i c : ℕ) (p : starts ≡ segment_starts 
   test_at : in_segment (segment_at segments i) c ≡ (leb (get_or starts i 0) c && ltb c (get_or starts i 0 + get_or lengths i 0))
   test_at = rw (start-at, columns-at)
 
-loop-holds : tie.Need-loop-init invariant-loop decreases-loop
+pub loop-i-init : goal.loop-i-init
 unfolding segment_name
-loop-holds c = (omega arith, refl)
+loop-i-init c = (omega arith, refl)
 
-add-if1 : tie.Need-overflow-add-if1 invariant-loop decreases-loop
-add-if1 c =
-    let b = c.before.before in
-    omega (arith, end-at _ _ c.before.loop.i 0 b.before.segment-starts.ensures b.segment-lengths.ensures)
+pub overflow_add-start : goal.overflow_add-start
+overflow_add-start c =
+    omega (arith, end-at _ _ c.loop-i.i 0 c.segment_starts-starts.ensures c.segment_lengths-lengths.ensures)
 
-returns : tie.Need-returns invariant-loop decreases-loop
-returns c =
-    let l = c.before.before.loop in let b = c.before.before.before in (
+pub returns-then-start-column : goal.returns-then-start-column
+returns-then-start-column c =
+    let l = c.loop-i in (
       omega arith,
       name-stops segments _ l.i (omega (arith, segments-count))
-          (test_at _ _ l.i _ b.before.segment-starts.ensures b.segment-lengths.ensures ∙ c.if1.true) ∙ l.invariant.1,
+          (test_at _ _ l.i _ c.segment_starts-starts.ensures c.segment_lengths-lengths.ensures ∙ c.if-start-column.true) ∙ l.invariant.1,
     )
 
-loop-again : tie.Need-loop-preserved invariant-loop decreases-loop
-loop-again c =
-    let l = c.before.before.loop in let b = c.before.before.before in (
+pub loop-i-preserved : goal.loop-i-preserved
+loop-i-preserved c =
+    let l = c.loop-i in (
       omega arith,
       name-goes segments _ l.i (omega (arith, segments-count))
-          (test_at _ _ l.i _ b.before.segment-starts.ensures b.segment-lengths.ensures ∙ c.if1.false) ∙ l.invariant.1,
+          (test_at _ _ l.i _ c.segment_starts-starts.ensures c.segment_lengths-lengths.ensures ∙ c.if-start-column.false) ∙ l.invariant.1,
     )
 
-returns-2 : tie.Need-returns-2 invariant-loop decreases-loop
-returns-2 c = let l = c.before.loop in (omega arith, name-ends segments _ l.i (omega (arith, segments-count)) ∙ l.invariant.1)
-
-pub segment_index_spec : {M : Type 1} → statement M
-segment_index_spec =
-    tie.close
-    (tie.spec invariant-loop decreases-loop (λ c κs. search rules) (λ c κs. search rules) loop-holds (λ c. search rules) (λ c. search rules)
-    (λ c. search rules) (λ c. search rules) add-if1 returns (λ c. search rules) (λ c. search rules) loop-again returns-2)
+pub returns : goal.returns
+returns c =
+    let l = c.loop-i in (omega arith, name-ends segments _ l.i (omega (arith, segments-count)) ∙ l.invariant.1)

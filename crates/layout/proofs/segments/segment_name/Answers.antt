@@ -11,14 +11,7 @@ use Rattle.base.specs.Written.{Written}
 use Rattle.base.specs.Laws.Written.{written_none, written-more}
 use Rattle.layout.specs.Segments.{segments, padded, segment_names, segment_name, segment_at}
 use Rattle.layout.specs.Laws.Segments.{segments-fit, segments-count, name-byte, length-name}
-use Rattle.layout.proofs.segments.segment_name.Statement.{statement}
-use Rattle.layout.proofs.segments.segment_name.Tie as tie
-
-abbrev invariant-loop : tie.invariant-loop
-invariant-loop column name₀ i names k₀ name k = (k ≤ 9) × Written (λ j. get_or (padded (segment_name column)) j 0) 0 k name₀ name
-
-abbrev decreases-loop : tie.decreases-loop
-decreases-loop column name₀ i names k₀ name k = 9 - k
+use Rattle.layout.proofs.segments.segment_name.Goals as goal
 
 module _ (i c : ℕ) (found : (segment_at segments i).name ≡ segment_name c) where
   no_name : i ≡ 19 → padded [] ≡ padded (segment_name c)
@@ -31,26 +24,22 @@ module _ (i c : ℕ) (found : (segment_at segments i).name ≡ segment_name c) w
       ap (λ (bytes : List ℕ). get_or bytes (9 * i + k) 0) e ∙ name-byte k l segments i segments-fit (omega (arith, segments-count))
       ∙ ap (λ (n : List ℕ). get_or (padded n) k 0) found
 
-returns : tie.Need-returns invariant-loop decreases-loop
-returns c = no_name _ _ c.before.segment-index.ensures.1 c.if1.true
+pub returns-then-i-eq19 : goal.returns-then-i-eq19
+returns-then-i-eq19 c = no_name _ _ c.segment_index-i.ensures.1 c.if-i-eq19.true
 
-loop-again : tie.Need-loop-preserved invariant-loop decreases-loop
-loop-again c =
-    let l = c.before.loop in let b = c.before.before in let s = b.before.before.segment-index.ensures in (
+pub loop-k-init : goal.loop-k-init
+loop-k-init c = search (written_none, rules)
+
+pub loop-k-preserved : goal.loop-k-preserved
+loop-k-preserved c =
+    let l = c.loop-k in let s = c.segment_index-i.ensures in (
       omega arith,
-      written-more _ 0 _ _ _ _ (byte_at _ _ s.1 _ l.k b.segment-names.ensures (omega arith) (omega arith))
+      written-more _ 0 _ _ _ _ (byte_at _ _ s.1 _ l.k c.segment_names-names.ensures (omega arith) (omega arith))
           (omega arith) (omega arith) l.invariant.1,
     )
 
-returns-2 : tie.Need-returns-2 invariant-loop decreases-loop
-returns-2 c =
-    let l = c.before.loop in let w = l.invariant.1 in let s = c.before.before.before.before.before.before.before.args.column in
+pub returns : goal.returns
+returns c =
+    let l = c.loop-k in let w = l.invariant.1 in let s = c.args.column in
     ext_get_or 0 l.name (padded (segment_name s)) (w.lengths ∙ sym (length-name s))
     (λ i h. w.here i (omega arith) (omega (arith, w.lengths)))
-
-pub segment_name_spec : {M : Type 1} → statement M
-segment_name_spec =
-    tie.close
-    (tie.spec invariant-loop decreases-loop (λ c κs. search rules) returns (λ c κs. search rules) (λ c. search (written_none, rules))
-    (λ c. search rules) (λ c. search rules) (λ c. search rules) (λ c. search rules) (λ c. search rules) (λ c. search rules)
-    loop-again returns-2)

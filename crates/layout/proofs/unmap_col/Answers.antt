@@ -12,29 +12,31 @@ use Rattle.layout.specs.Laws.Sizes.{allowed-range}
 use Rattle.layout.specs.Laws.Exponent.{exponent-below, shift-and-mask}
 use Rattle.base.specs.Laws.Tests.{passed}
 use Rattle.base.specs.Laws.WaysOut.{waysOut}
-use Rattle.layout.proofs.unmap_col.Statement.{statement}
-use Rattle.layout.proofs.unmap_col.Tie as tie
+use Rattle.layout.proofs.unmap_col.Goals as goal
 
-mul-if2 : tie.Need-overflow-mul-if2
-mul-if2 c = omega (arith, allowed-range _ (sym c.before.is-allowed.ensures ∙ not-false _ c.if1.false))
+pub returns-then-not-is_allowed : goal.returns-then-not-is_allowed
+returns-then-not-is_allowed c = search waysOut
 
-shr-t9 : tie.Need-overflow-shr-t9
-shr-t9 e =
+pub overflow_mul-cpi : goal.overflow_mul-cpi
+overflow_mul-cpi c =
+    omega (arith, allowed-range _ (sym c.is_allowed.ensures ∙ not-false _ c.if-not-is_allowed.false))
+
+pub returns-then-cpi-batch_column : goal.returns-then-cpi-batch_column
+returns-then-cpi-batch_column c = search waysOut
+
+pub overflow_shr-result : goal.overflow_shr-result
+overflow_shr-result c =
     let i = e.before.before in
     omega (arith, e.exponent.ensures, exponent-below _ (sym i.before.is-allowed.ensures ∙ not-false _ i.if1.false))
 
-placed : tie.Need-returns-3
+pub overflow_sub-result : goal.overflow_sub-result
+overflow_sub-result c = search (allowed-range, rules)
+
+pub returns : goal.returns
 unfolding unmapped
-placed e =
+returns c =
     let t = e.before in let i = t.before in let x = i.before in
     let ok = sym x.is-allowed.ensures ∙ not-false _ i.if1.false in
     let q = shift-and-mask x.before.args.cpi x.before.args.batch-column ok in
     ap₂ At (ap (λ (k : ℕ). x.before.args.batch-column / 2 ^ k) e.exponent.ensures ∙ q.0) q.1
     ∙ passed _ _ _ (lt-ltb _ _ t.if2.false) ∙ passed _ _ _ ok
-
-pub unmap_col_spec : {M : Type 1} → statement M
-unfolding unmapped
-unmap_col_spec =
-    tie.close
-    (tie.spec (λ c κs. search rules) (λ c κs. search rules) (λ c. search waysOut) mul-if2 (λ c κs. search rules)
-    (λ c. search waysOut) (λ c κs. search rules) (λ c. search rules) shr-t9 (λ c. search (allowed-range, rules)) placed)

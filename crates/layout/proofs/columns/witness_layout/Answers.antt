@@ -2,12 +2,8 @@
 -- Assumes nothing.
 use mathlib.Core.Path.{refl}
 use Rattle.layout.specs.Columns.{witness_layout}
-use Rattle.layout.proofs.columns.witness_layout.Statement.{statement}
-use Rattle.layout.proofs.columns.witness_layout.Tie as tie
+use Rattle.layout.proofs.columns.witness_layout.Goals as goal
 
-returns : tie.Need-returns
+pub returns : goal.returns
 unfolding witness_layout
 returns c = refl
-
-pub witness_layout_spec : {M : Type 1} → statement M
-witness_layout_spec = tie.close (tie.spec returns)

@@ -2,12 +2,8 @@
 -- Assumes nothing.
 use mathlib.Core.Path.{refl}
 use Rattle.layout.specs.Columns.{field_widths}
-use Rattle.layout.proofs.columns.field_widths.Statement.{statement}
-use Rattle.layout.proofs.columns.field_widths.Tie as tie
+use Rattle.layout.proofs.columns.field_widths.Goals as goal
 
-returns : tie.Need-returns
+pub returns : goal.returns
 unfolding field_widths
 returns c = refl
-
-pub field_widths_spec : {M : Type 1} → statement M
-field_widths_spec = tie.close (tie.spec returns)

@@ -1,0 +1,12 @@
+-- `text::decimal_digits` meets its contract: the last digit first, and what is left of the number goes before the digits that stand.
+-- Assumes nothing.
+use borrow.Author.Rules.{rules}
+use native.Mathlib.Omega.{arith}
+use Rattle.text.specs.Laws.Decimal.{Begun, begun, begun-room, begun_more, begun_all}
+use Rattle.text.proofs.decimal_digits.Given as goal
+
+abbrev pub invariant-loop-rest : goal.invariant-loop-rest
+invariant-loop-rest l = Begun l.n l.rest l.start l.bytes
+
+abbrev pub decreases-loop-rest : goal.decreases-loop-rest
+decreases-loop-rest l = l.rest
