@@ -24,7 +24,9 @@ pub overflow_add-result-else-column-lt-W_COLS : goal.overflow_add-result-else-co
 overflow_add-result-else-column-lt-W_COLS c = omega (arith, allowed-range _ c.requires.0)
 
 pub returns-then-column-lt-W_COLS : goal.returns-then-column-lt-W_COLS
+unfolding column_at
 returns-then-column-lt-W_COLS c = search waysOut
 
 pub returns-else-column-lt-W_COLS : goal.returns-else-column-lt-W_COLS
+unfolding column_at
 returns-else-column-lt-W_COLS c = search waysOut

@@ -15,28 +15,28 @@ use Rattle.base.specs.Laws.WaysOut.{waysOut}
 use Rattle.layout.proofs.unmap_col.Goals as goal
 
 pub returns-then-not-is_allowed : goal.returns-then-not-is_allowed
+unfolding unmapped
 returns-then-not-is_allowed c = search waysOut
 
 pub overflow_mul-cpi : goal.overflow_mul-cpi
-overflow_mul-cpi c =
-    omega (arith, allowed-range _ (sym c.is_allowed.ensures ∙ not-false _ c.if-not-is_allowed.false))
+overflow_mul-cpi c = omega (arith, allowed-range _ (sym c.is_allowed.ensures ∙ c.if-not-is_allowed.false))
 
 pub returns-then-cpi-batch_column : goal.returns-then-cpi-batch_column
+unfolding unmapped
 returns-then-cpi-batch_column c = search waysOut
 
 pub overflow_shr-result : goal.overflow_shr-result
 overflow_shr-result c =
-    let i = e.before.before in
-    omega (arith, e.exponent.ensures, exponent-below _ (sym i.before.is-allowed.ensures ∙ not-false _ i.if1.false))
+    omega (arith, c.exponent.ensures, exponent-below _ (sym c.is_allowed.ensures ∙ c.if-not-is_allowed.false))
 
 pub overflow_sub-result : goal.overflow_sub-result
+unfolding unmapped
 overflow_sub-result c = search (allowed-range, rules)
 
 pub returns : goal.returns
 unfolding unmapped
 returns c =
-    let t = e.before in let i = t.before in let x = i.before in
-    let ok = sym x.is-allowed.ensures ∙ not-false _ i.if1.false in
-    let q = shift-and-mask x.before.args.cpi x.before.args.batch-column ok in
-    ap₂ At (ap (λ (k : ℕ). x.before.args.batch-column / 2 ^ k) e.exponent.ensures ∙ q.0) q.1
-    ∙ passed _ _ _ (lt-ltb _ _ t.if2.false) ∙ passed _ _ _ ok
+    let ok = sym c.is_allowed.ensures ∙ c.if-not-is_allowed.false in
+    let q = shift-and-mask c.args.cpi c.args.batch_column ok in
+    ap₂ At (ap (λ (k : ℕ). c.args.batch_column / 2 ^ k) c.exponent.ensures ∙ q.0) q.1
+    ∙ passed _ _ _ (lt-ltb _ _ c.if-cpi-batch_column.false) ∙ passed _ _ _ ok
