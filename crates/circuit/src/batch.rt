@@ -9,7 +9,7 @@ use crate::{Coefficient, Relation, Side, Word, words};
 use layout::{ColumnAnswer, Refusal};
 
 // What a word of the listing stands for in a cycle of a batch: the mark of a batch row, or a term on a batch column.
-#[derive(Drop)]
+#[derive(Clone, Copy)]
 pub enum BatchWord {
     Row {
         relation: Relation,
@@ -24,7 +24,7 @@ pub enum BatchWord {
 }
 
 // A row of a cycle.
-#[derive(Drop)]
+#[derive(Clone, Copy)]
 pub enum CycleRowAnswer {
     At { cycle: usize, row: usize },
     Refused(Refusal),

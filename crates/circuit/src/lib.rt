@@ -1,6 +1,7 @@
 // The constraint listing: its words, the rows that they stand for, the house listing, its questions, the search for a row, and the
 // listing reader.
 #![tactic(auto)]
+
 pub mod batch;
 pub mod questions;
 pub mod reader;
@@ -14,21 +15,21 @@ ghost use Rattle.circuit.specs.Circuit.{circuit_words};
 use crate::table::HOUSE;
 
 // The relation of a row: over bits, or over packed words. Both are checked over the field.
-#[derive(Drop)]
+#[derive(Clone, Copy)]
 pub enum Relation {
     Bin,
     Fld,
 }
 
 // The coefficient of a term: zero, or 2^k.
-#[derive(Drop)]
+#[derive(Clone, Copy)]
 pub enum Coefficient {
     Zero,
     Power(u32),
 }
 
 // The sides of a row, which holds when A · B = C.
-#[derive(Drop)]
+#[derive(Clone, Copy)]
 pub enum Side {
     A,
     B,
@@ -36,7 +37,7 @@ pub enum Side {
 }
 
 // What a word of a listing stands for: the mark of a row, or a term on one of its sides.
-#[derive(Drop)]
+#[derive(Clone, Copy)]
 pub enum Word {
     Mark {
         relation: Relation,

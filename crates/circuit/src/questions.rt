@@ -7,7 +7,7 @@ use layout::{Asked, Refusal};
 
 // What is known after some words: low is the least place that the next mark may have in the order of marks, 0 before the first; kind
 // is that of the last term of the row.
-#[derive(Drop)]
+#[derive(Clone, Copy)]
 enum Progress {
     Go { low: u32, kind: u32 },
     Stop { number: u8 },

@@ -37,21 +37,21 @@ fn row_of(asked: Asked, place: Found) -> Found
 }
 
 // The lent words, and the position: the index just after the part that was read last.
-#[derive(Drop)]
+#[derive(Clone, Copy)]
 pub struct ListingReader<'a> {
     pub listing: &'a [u32],
     pub position: usize,
 }
 
 // What questions 6 to 10 came to, and the reader, which has no words where they refused.
-#[derive(Drop)]
+#[derive(Clone, Copy)]
 pub struct Opened<'a> {
     pub asked: Asked,
     pub reader: ListingReader<'a>,
 }
 
 // Where a row stands, or question 13's refusal, and the row's words. An enum can hold no reference, so the part stands beside it.
-#[derive(Drop)]
+#[derive(Clone, Copy)]
 pub struct RowAnswer<'a> {
     pub place: Found,
     pub part: &'a [u32],

@@ -7,7 +7,7 @@ use crate::Relation;
 use layout::Refusal;
 
 // A row of a listing is the words from start on, up to but not including end.
-#[derive(Drop)]
+#[derive(Clone, Copy)]
 pub enum Found {
     At { start: usize, end: usize },
     Refused(Refusal),

@@ -12,7 +12,7 @@ use circuit::search::Found;
 use layout::Asked;
 
 // What the opening answered, and of each row the place, a word of the part, and the position afterwards.
-#[derive(Drop)]
+#[derive(Clone, Copy)]
 pub struct TwoRows {
     pub asked: Asked,
     pub first: Found,

@@ -7,7 +7,7 @@ ghost use Rattle.std.specs.Prelude.{◌≡◌, cond, ◌/◌, ◌^◌};
 ghost use Rattle.field.specs.Gf.{of_words, low, high, value, element, zero, one, same, is_bit, added, product, shifted, power, odd};
 
 // The low word has the coefficients of t^0 to t^63.
-#[derive(Drop)]
+#[derive(Clone, Copy)]
 pub struct Gf128 {
     lo: u64,
     hi: u64,

@@ -9,7 +9,7 @@ use layout::columns::{
 };
 
 // The flags that gates are made of: write the destination, load, and how much a load takes.
-#[derive(Drop)]
+#[derive(Clone, Copy)]
 pub struct Flags {
     pub write: bool,
     pub load: bool,

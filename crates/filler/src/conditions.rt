@@ -18,7 +18,7 @@ use layout::{Asked, Refusal};
 use strict::Known;
 
 // Every condition is met, or the number of the first that is not.
-#[derive(Drop)]
+#[derive(Clone, Copy)]
 pub enum StepAnswer {
     Meets,
     Unmet(usize),
@@ -26,7 +26,7 @@ pub enum StepAnswer {
 }
 
 // The words that the conditions read; the opcode has seven bits.
-#[derive(Drop)]
+#[derive(Clone, Copy)]
 pub struct StepWords {
     pub rs1: u64,
     pub rd: u64,
@@ -40,7 +40,7 @@ pub struct StepWords {
 
 // The flags that gates are made of, the others by their columns' names, and what stands behind them: OFF of three bits and the RAM
 // address of eight.
-#[derive(Drop)]
+#[derive(Clone, Copy)]
 struct StepFlags {
     gates: Flags,
     sub: bool,

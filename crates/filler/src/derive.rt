@@ -13,7 +13,7 @@ use crate::bits::{
 use layout::columns::OPSYS;
 
 // The words of a cycle that its derived columns depend on; `flags` has columns 768 to 831.
-#[derive(Drop)]
+#[derive(Clone, Copy)]
 pub struct GivenWords {
     pub rs1: u64,
     pub rs2: u64,
@@ -26,7 +26,7 @@ pub struct GivenWords {
 }
 
 // What they determine: columns 448 to 511, 896 to 953, 1024 to 1087 and 1088 to 1126.
-#[derive(Drop)]
+#[derive(Clone, Copy)]
 pub struct DerivedWords {
     pub carry: u64,
     pub lanes: u64,
@@ -35,7 +35,7 @@ pub struct DerivedWords {
 }
 
 // Bit 63 of each word that the comparisons read.
-#[derive(Drop)]
+#[derive(Clone, Copy)]
 struct TopBits {
     rs1: bool,
     rs2: bool,

@@ -20,21 +20,21 @@ pub const SCRATCH_MOST: usize = 3072; // and at most so many
 
 // A question of document 01 that was answered with no: its number, and the place (a word's index for 7 to 10, the smallest batch
 // column for 11, else 0).
-#[derive(Drop)]
+#[derive(Clone, Copy)]
 pub struct Refusal {
     pub number: u8,
     pub place: usize,
 }
 
 // What a row of questions comes to.
-#[derive(Drop)]
+#[derive(Clone, Copy)]
 pub enum Asked {
     Yes,
     No(Refusal),
 }
 
 // The batch that cpi cycles share: its witness columns, all its columns, its one column, and its witness columns in words of 128.
-#[derive(Drop)]
+#[derive(Clone, Copy)]
 pub struct InstanceGeometry {
     pub cpi: usize,
     pub w_cols: usize,
@@ -43,21 +43,21 @@ pub struct InstanceGeometry {
     pub w128: usize,
 }
 
-#[derive(Drop)]
+#[derive(Clone, Copy)]
 pub enum GeometryAnswer {
     Of(InstanceGeometry),
     Refused(Refusal),
 }
 
 // A batch column.
-#[derive(Drop)]
+#[derive(Clone, Copy)]
 pub enum ColumnAnswer {
     At(usize),
     Refused(Refusal),
 }
 
 // A column of a cycle.
-#[derive(Drop)]
+#[derive(Clone, Copy)]
 pub enum CycleColumnAnswer {
     At { column: usize, cycle: usize },
     Refused(Refusal),

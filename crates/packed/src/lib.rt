@@ -16,7 +16,7 @@ ghost use Rattle.packed.specs.Named.{Named, NamedIn};
 use layout::{Asked, Refusal};
 
 // Whether the columns that were packed are bits.
-#[derive(Drop)]
+#[derive(Clone, Copy)]
 pub enum Packing {
     Bits,
     NotBits,

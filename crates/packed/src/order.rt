@@ -7,7 +7,7 @@ ghost use Rattle.packed.specs.Order.{put_into, OrderIn, BlocksIn, Gathered};
 use crate::many::put_words;
 use crate::turn::{turn, unturn};
 
-#[derive(Drop)]
+#[derive(Clone, Copy)]
 pub enum Order {
     Batch,
     Cycles,

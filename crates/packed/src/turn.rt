@@ -2,7 +2,7 @@
 // with no division and no case of its own for a size.
 ghost use Rattle.packed.specs.Turn.{Masks, Exchanged, StepIn, Stepped, TurnIn, Turned};
 
-#[derive(Drop)]
+#[derive(Clone, Copy)]
 struct Two {
     low: u64,
     high: u64,

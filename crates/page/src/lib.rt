@@ -17,7 +17,7 @@ use circuit::search::{Found, rows_a_cycle};
 use layout::{Asked, Refusal};
 
 // How many bytes the pages of a row take.
-#[derive(Drop)]
+#[derive(Clone, Copy)]
 pub enum BytesAnswer {
     Of(usize),
     Refused(Refusal),

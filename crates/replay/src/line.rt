@@ -1,7 +1,7 @@
 // A line of the vector file: a letter, and up to eight numbers in hex, each behind one blank.
 ghost use Rattle.std.specs.Prelude.{◌<◌, ◌≤◌, length};
 
-#[derive(Drop)]
+#[derive(Clone, Copy)]
 pub struct Record {
     pub letter: u8,
     pub numbers: [u64; 8],
@@ -9,7 +9,7 @@ pub struct Record {
 }
 
 // The numbers so far, of which `count` have begun.
-#[derive(Drop)]
+#[derive(Clone, Copy)]
 struct Numbers {
     values: [u64; 8],
     count: usize,

@@ -16,7 +16,7 @@ use crate::words::Put;
 use libc::{STDIN_FILENO, STDOUT_FILENO};
 
 // What a line comes to: nothing to answer, the right answer, or another one.
-#[derive(Drop)]
+#[derive(Clone, Copy)]
 enum Outcome {
     Quiet,
     Right,
@@ -37,7 +37,7 @@ fn set(done: bool) -> Outcome {
 }
 
 // A line says nothing, puts words, or has an answer of the product: on numbers, on words that are read, on words that are made.
-#[derive(Drop)]
+#[derive(Clone, Copy)]
 enum Kind {
     Note,
     Cells(Put),
@@ -92,7 +92,7 @@ fn replay(line: Record, cells: &mut [u64], lent: &mut [u64], made: &mut [u64]) -
 }
 
 // How many answers were right, and how many others.
-#[derive(Drop)]
+#[derive(Clone, Copy)]
 struct Tally {
     right: u64,
     wrong: u64,

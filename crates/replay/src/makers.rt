@@ -3,7 +3,7 @@ use crate::words::{all_are, fill_with, has_part, part, same_words};
 use compare::fills::compare_fill;
 use compare::makers::{compare_assemble, compare_witness_row};
 
-#[derive(Drop)]
+#[derive(Clone, Copy)]
 pub enum Made {
     Row,
     Batch,
@@ -11,7 +11,7 @@ pub enum Made {
 }
 
 // A row or a batch that is to be made. A row's record is lent from word 0 on and its ROM row from 0x1e on, a batch's cycles from 0 on.
-#[derive(Drop)]
+#[derive(Clone, Copy)]
 struct Wanted {
     is_row: bool,
     cpi: usize,

@@ -3,7 +3,7 @@ use compare::makers::compare_read_branch;
 use field::Gf128;
 use layout::{ColumnAnswer, CycleColumnAnswer, GeometryAnswer, Refusal};
 
-#[derive(Drop)]
+#[derive(Clone, Copy)]
 pub enum Numbers {
     Product,
     Sum,

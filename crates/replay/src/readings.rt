@@ -5,7 +5,7 @@ use compare::fills::compare_first_unmet;
 use compare::reader::compare_reader;
 use verdict::{CheckAnswer, Counts, Verdict};
 
-#[derive(Drop)]
+#[derive(Clone, Copy)]
 pub enum Reading {
     Check,
     Bits,

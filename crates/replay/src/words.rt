@@ -3,7 +3,7 @@
 // Places and steps behind this one are outside all words; sums of others stay small.
 const FAR: u64 = 0x1000000;
 
-#[derive(Drop)]
+#[derive(Clone, Copy)]
 pub enum Put {
     Zeros,
     Element,

@@ -11,7 +11,7 @@ use crate::table::STRICT;
 use circuit::Relation;
 
 // A listing that is known by name, so that none has to be lent.
-#[derive(Drop)]
+#[derive(Clone, Copy)]
 pub enum Known {
     House,
     Strict,

@@ -8,7 +8,7 @@ ghost use Rattle.text.specs.Decimal.{decimal_of};
 ghost use Rattle.text.specs.Put.{Put};
 
 // A number's decimal digits, right-aligned in as many bytes as the largest number takes, and the index of the first.
-#[derive(Drop)]
+#[derive(Clone, Copy)]
 pub struct Decimal {
     pub bytes: [u8; 20],
     pub start: usize,

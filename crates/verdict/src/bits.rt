@@ -10,7 +10,7 @@ use field::Gf128;
 use layout::{Asked, CycleColumnAnswer, Refusal};
 
 // All bits, or the smallest batch column above 1, which is this column of this cycle.
-#[derive(Drop)]
+#[derive(Clone, Copy)]
 pub enum BitAnswer {
     AllBits,
     NotBit {

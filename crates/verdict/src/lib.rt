@@ -20,7 +20,7 @@ use strict::Known;
 
 // How many cycle-and-mark pairs were tested, the failing one included: those of bin, and those of fld, which is 0 until bin has passed.
 // A batch has at most 131,072 of the one and 8,192 of the other.
-#[derive(Drop)]
+#[derive(Clone, Copy)]
 pub struct Counts {
     pub bin: u32,
     pub fld: u32,
@@ -36,7 +36,7 @@ impl Counts {
 }
 
 // A verdict: `row` is the batch row, 512 · d + r in bin and 32 · d + r in fld.
-#[derive(Drop)]
+#[derive(Clone, Copy)]
 pub enum Verdict {
     Accepted {
         counts: Counts,
@@ -49,21 +49,21 @@ pub enum Verdict {
 }
 
 // What the terms of a row's sides A, B and C add up to.
-#[derive(Drop)]
+#[derive(Clone, Copy)]
 pub struct Sums {
     pub a: Gf128,
     pub b: Gf128,
     pub c: Gf128,
 }
 
-#[derive(Drop)]
+#[derive(Clone, Copy)]
 pub enum ApplyAnswer {
     Of(Sums),
     Refused(Refusal),
 }
 
 // A refusal is no verdict.
-#[derive(Drop)]
+#[derive(Clone, Copy)]
 pub enum CheckAnswer {
     Judged(Verdict),
     Refused(Refusal),

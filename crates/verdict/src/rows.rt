@@ -11,21 +11,21 @@ use circuit::Side;
 use field::Gf128;
 
 // The sum of a side, and the index behind its terms.
-#[derive(Drop)]
+#[derive(Clone, Copy)]
 pub struct SideSum {
     pub sum: Gf128,
     pub end: usize,
 }
 
 // The sums of a row, and the index behind it.
-#[derive(Drop)]
+#[derive(Clone, Copy)]
 pub struct RowSums {
     pub sums: Sums,
     pub end: usize,
 }
 
 // Whether a row holds, and the index behind it.
-#[derive(Drop)]
+#[derive(Clone, Copy)]
 pub struct Tested {
     pub holds: bool,
     pub end: usize,

@@ -3,7 +3,7 @@ ghost use Rattle.std.specs.Prelude.{◌≡◌};
 ghost use Rattle.step.specs.Branch.{below_signed, branch_holds};
 ghost use Rattle.witness.specs.Reading.{is_reserved, reading};
 
-#[derive(Drop)]
+#[derive(Clone, Copy)]
 pub enum BranchReading {
     NoBranch,
     Taken,

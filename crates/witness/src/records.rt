@@ -1,7 +1,7 @@
 // What the interpreter and the expander hand over: plain data by value, with their names.
 
 // One cycle of a run.
-#[derive(Drop)]
+#[derive(Clone, Copy)]
 pub struct CycleRecord {
     pub micro_pc: usize,
     pub rs1_val: u64,
@@ -36,7 +36,7 @@ pub struct CycleRecord {
 }
 
 // What a virtual instruction is. A register shift goes in stages, and each knows its number.
-#[derive(Drop)]
+#[derive(Clone, Copy)]
 pub enum VirtualKind {
     Alu,
     ShiftStage { stage: usize },
@@ -49,7 +49,7 @@ pub enum VirtualKind {
 }
 
 // One row of the bytecode table.
-#[derive(Drop)]
+#[derive(Clone, Copy)]
 pub struct RomRow {
     pub kind: VirtualKind,
     pub rd: usize,

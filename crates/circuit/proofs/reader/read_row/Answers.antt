@@ -1,0 +1,24 @@
+-- `circuit::reader::read_row` meets its contract: the place is sought in the words that the answers to questions 6 to 10 admit, and where
+-- they refuse, `row_of` does not look at it.
+-- Assumes nothing.
+use mathlib.Core.Path.{◌≡◌, refl}
+use mathlib.Core.List.{List}
+use Prim.Native.Nat.{ℕ}
+use borrow.Author.Rules.{rules}
+use Rattle.layout.specs.declared.Asked.{Asked}
+use Rattle.layout.specs.declared.Asked.TheVariants.{Yes, No}
+use Rattle.circuit.specs.Found.{found}
+use Rattle.circuit.specs.Reader.{admitted, row_of}
+use Rattle.circuit.specs.declared.Relation.{Relation}
+use Rattle.circuit.proofs.reader.read_row.Goals as goal
+
+-- where the questions refuse, the search does not matter
+same_row : (ws : List ℕ) (rel : Relation) (n : ℕ) (a : Asked) → row_of a (found (admitted a ws) rel n) ≡ row_of a (found ws rel n)
+same_row ws rel n Yes = refl
+same_row ws rel n (No r) = refl
+
+pub returns : goal.returns
+returns c =
+    let ws : List ℕ = c.args.listing.now in
+    let rel : Relation = c.args.relation in
+    cc (same_row ws rel c.args.row c.validate-asked.result)

@@ -1,0 +1,17 @@
+-- `circuit::search::index_of` meets its contract: the count from here is the count asked for, at every turn.
+-- Assumes nothing.
+use mathlib.Core.Path.{◌≡◌}
+use Prim.Native.Nat.{◌+◌, ◌≤◌, ◌-◌}
+use native.Mathlib.Nat.{zero-add}
+use borrow.Author.Rules.{rules}
+use lib.ListN.{length, drop}
+use Rattle.circuit.specs.Found.{until, is_word}
+use Rattle.circuit.specs.Laws.Search.{stops, goes, ends}
+use Rattle.base.specs.Laws.WaysOut.{waysOut}
+use Rattle.circuit.proofs.search.index_of.Given as goal
+
+abbrev pub invariant-loop-i : goal.invariant-loop-i
+invariant-loop-i l = (l.i ≤ length l.listing) × (l.i + until (is_word l.w) (drop l.i l.listing) ≡ until (is_word l.w) l.listing)
+
+abbrev pub decreases-loop-i : goal.decreases-loop-i
+decreases-loop-i l = length l.listing - l.i

@@ -1,0 +1,17 @@
+-- `circuit::search::next_mark` meets its contract: the count from here is the count asked for, at every turn.
+-- Assumes nothing.
+use mathlib.Core.Path.{◌≡◌}
+use Prim.Native.Nat.{◌+◌, ◌≤◌, ◌-◌}
+use borrow.Author.Rules.{rules}
+use lib.ListN.{length, drop}
+use Rattle.circuit.specs.Words.{is_mark}
+use Rattle.circuit.specs.Found.{until}
+use Rattle.circuit.specs.Laws.Search.{stops, goes, ends}
+use Rattle.base.specs.Laws.WaysOut.{waysOut}
+use Rattle.circuit.proofs.search.next_mark.Given as goal
+
+abbrev pub invariant-loop-k : goal.invariant-loop-k
+invariant-loop-k l = (l.k ≤ length l.listing) × (l.k + until is_mark (drop l.k l.listing) ≡ l.i + until is_mark (drop l.i l.listing))
+
+abbrev pub decreases-loop-k : goal.decreases-loop-k
+decreases-loop-k l = length l.listing - l.k

@@ -1,0 +1,54 @@
+-- Where nothing passes bit 127 the shift is the product; else after i turns r is the product with t^i.
+use mathlib.Core.Path.{◌≡◌, sym, ap, ◌∙◌}
+use Prim.Native.Nat.{ℕ, ◌-◌, ◌≤◌}
+use native.Mathlib.Numerals.{add-one}
+use native.Mathlib.Omega.{arith}
+use borrow.Author.Rules.{rules}
+use Rattle.field.specs.declared.Gf128.{Gf128}
+use Rattle.field.specs.Gf.{value, Proper, zero, same, product, power}
+use Rattle.field.specs.Gf.Tests.{same_true}
+use Rattle.field.specs.Gf.Element.{value-zero}
+use Rattle.field.specs.Gf.Laws.{mul-zero, power-past, shift-is-product}
+use Rattle.field.specs.Gf.Loops.{no-factor, one-factor, value-down}
+use Rattle.field.proofs.Shift.{stays}
+use Rattle.field.proofs.Gf128.times_power.Goals as goal
+
+pub returns-then-k-eq0 : goal.returns-then-k-eq0
+returns-then-k-eq0 c =
+    let x = c.args.self in
+    let p : Proper x = omega arith in
+    sym (ap (λ (k : ℕ). product x (power k)) c.if-k-eq0.true ∙ no-factor x p)
+
+pub returns-then-k-ge128 : goal.returns-then-k-ge128
+returns-then-k-ge128 c =
+    let a = c.args in
+    c.zero.ensures ∙ sym (ap (product a.self) (power-past a.k (omega arith)) ∙ mul-zero a.self)
+
+pub returns-then-same : goal.returns-then-same
+returns-then-same c =
+    let a = c.args in let x = a.self in
+    let p : Proper x = omega arith in
+    let above = c.shr in
+    let test = c.same.ensures ∙ ap (same above.result) c.zero-2.ensures in
+    let empty = same_true above.result zero (sym test ∙ c.if-same.true) in
+    let none = sym (value-down (128 - a.k) p) ∙ ap value (sym above.ensures ∙ empty) ∙ value-zero in
+    c.shl.ensures ∙ shift-is-product x a.k (omega arith) (stays 128 (128 - a.k) a.k (value x) (omega arith) none)
+
+pub loop-i-init : goal.loop-i-init
+loop-i-init c = (omega arith, sym (no-factor c.args.self (omega arith)))
+
+pub loop-i-preserved : goal.loop-i-preserved
+loop-i-preserved c =
+    let l = c.loop-i in
+    let x = c.args.self in (
+      omega arith,
+      c.times_t-r.ensures ∙ ap (λ (y : Gf128). product y (power 1)) l.invariant.1 ∙ one-factor x l.i (omega arith) (omega arith)
+          ∙ ap (λ (k : ℕ). product x (power k)) (sym (add-one l.i)),
+    )
+
+pub returns : goal.returns
+returns c =
+    let l = c.loop-i in
+    let a = c.args in
+    let e : l.i ≡ a.k = omega arith in
+    l.invariant.1 ∙ ap (λ (k : ℕ). product a.self (power k)) e
