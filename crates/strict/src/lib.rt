@@ -1,5 +1,6 @@
 // The strict flag listing (document 02, request 6), and the listings that are known by name.
 #![tactic(auto)]
+
 mod table;
 
 ghost use Rattle.std.specs.Prelude.{true, ◌↔◌, ◌≡◌, length};

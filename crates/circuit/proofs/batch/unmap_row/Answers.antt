@@ -32,7 +32,7 @@ returns-then-rows-cpi c =
     ap NoRow c.refused-then-rows-cpi.ensures
     ∙ (let a = c.args in
     let e = ap (λ (n : ℕ). n * a.cpi) c.rows_a_cycle-rows.ensures in
-    refused _ _ _ (le-ltb a.batch-row (rows_a_cycle a.relation * a.cpi) (omega (arith, e, c.if-rows-cpi.true)))
+    refused _ _ _ (le-ltb a.batch_row (rows_a_cycle a.relation * a.cpi) (omega (arith, e, c.if-rows-cpi.true)))
     ∙ passed _ _ _ (sym c.is_allowed.ensures ∙ c.if-not-is_allowed.false))
 
 pub nonzero_div-result : goal.nonzero_div-result
@@ -45,5 +45,5 @@ pub returns : goal.returns
 returns c =
     let a = c.args in let e = c.rows_a_cycle-rows.ensures in
     let ok = sym c.is_allowed.ensures ∙ c.if-not-is_allowed.false in
-    ap (λ (n : ℕ). At (a.batch-row / n) (a.batch-row % n)) e
-    ∙ sym (row_of a.cpi ok a.relation a.batch-row (omega (arith, ap (λ (n : ℕ). n * a.cpi) e, c.if-rows-cpi.false)))
+    ap (λ (n : ℕ). At (a.batch_row / n) (a.batch_row % n)) e
+    ∙ sym (row_of a.cpi ok a.relation a.batch_row (omega (arith, ap (λ (n : ℕ). n * a.cpi) e, c.if-rows-cpi.false)))

@@ -5,12 +5,8 @@ use Rattle.base.specs.Lists.{joined, from, from_each}
 use Rattle.circuit.specs.Rows.{numbered, side_words, encode}
 use Rattle.circuit.specs.Circuit.{bin_families, fld_families}
 use Rattle.strict.specs.Rows.{flag_rows, strict_rows, strict_words}
-use Rattle.strict.proofs.build_strict.Statement.{statement}
-use Rattle.strict.proofs.build_strict.Tie as tie
+use Rattle.strict.proofs.build_strict.Goals as goal
 
-returns : tie.Need-returns
+pub returns : goal.returns
 unfolding strict_words strict_rows flag_rows bin_families fld_families from from_each joined numbered side_words encode
 returns c = refl
-
-pub build_strict_spec : {M : Type 1} → statement M
-build_strict_spec = tie.close (tie.spec returns)

@@ -1,0 +1,17 @@
+-- `strict::words_in` meets its contract: so many words each listing has.
+-- Assumes nothing.
+use mathlib.Core.List.{List}
+use mathlib.Core.Path.{◌≡◌, sym, ap, ◌∙◌}
+use Prim.Native.Nat.{ℕ}
+use lib.ListN.{length}
+use Rattle.strict.specs.Known.{listing_of}
+use borrow.Author.Rules.{rules}
+use Rattle.circuit.specs.Laws.House as house
+use Rattle.strict.specs.Laws.Strict as strict
+use Rattle.strict.proofs.words_in.Goals as goal
+
+pub returns-in-House : goal.returns-in-House
+returns-in-House c = sym (ap (λ k. length (listing_of k)) c.in-House.is ∙ (house.counts).words)
+
+pub returns-in-Strict : goal.returns-in-Strict
+returns-in-Strict c = sym (ap (λ k. length (listing_of k)) c.in-Strict.is ∙ (strict.counts).words)
