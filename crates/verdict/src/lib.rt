@@ -1,5 +1,6 @@
 // The verdict on a batch: which row of which cycle is the first that does not hold, and how many were tested in each relation.
 #![tactic(auto)]
+
 pub mod bits;
 mod rows;
 mod walk;

@@ -18,8 +18,7 @@ use Rattle.circuit.specs.Laws.Search.{stops, goes, ends}
 use Rattle.verdict.specs.Row.{cycle_of, times, sum_of}
 use Rattle.verdict.specs.RowParts.{run_length, run_terms}
 use Rattle.verdict.specs.Laws.RowParts.{run-stops, run-goes, run_ends}
-use Rattle.verdict.proofs.rows.side_sum.Statement.{statement}
-use Rattle.verdict.proofs.rows.side_sum.Tie as tie
+use Rattle.verdict.proofs.rows.side_sum.Goals as goal
 
 module _ (z : ℕ → Gf128) (sum : Gf128) where
   -- nothing is left of the run
@@ -41,50 +40,34 @@ module _ (side : Side) (w : ℕ) {kind : ℕ} (e : kind ≡ side_kind side) wher
   is_within : kind_of w ≤ kind → past side w ≡ false
   is_within h = ap (λ (k : ℕ). ltb k (kind_of w)) (sym e) ∙ le-ltb kind (kind_of w) h
 
-abbrev invariant-loop : tie.invariant-loop
-invariant-loop cpi listing from side batch cycle sum₀ i₀ sum i =
-    (i ≤ length listing)
-    × (i + run_length side (drop i listing) ≡ from + run_length side (drop from listing))
-    × (added sum (sum_of (cycle_of cpi batch cycle) (run_terms side (drop i listing)))
-    ≡ sum_of (cycle_of cpi batch cycle) (run_terms side (drop from listing)))
+pub loop-i-init : goal.loop-i-init
+loop-i-init c = (search rules, refl, rw c.zero-sum.ensures (zero-add _))
 
-abbrev decreases-loop : tie.decreases-loop
-decreases-loop cpi listing from side batch cycle sum₀ i₀ sum i = length listing - i
-
-loop-holds : tie.Need-loop-init invariant-loop decreases-loop
-loop-holds c = (search rules, refl, rw c.zero.ensures (zero-add _))
-
-returns : tie.Need-returns invariant-loop decreases-loop
-returns c =
-    let l = c.before.before.before in let t = l.before.loop in let a = l.before.before.before.before.before.args in
-    let inside = l.loop-test.true in let stop = is-behind a.side _ c.before.side-kind.ensures c.if1.true in
+pub returns-then-side_kind-w : goal.returns-then-side_kind-w
+returns-then-side_kind-w c =
+    let t = c.loop-i in let a = c.args in
+    let inside = c.loop-i-test.true in let stop = is-behind a.side _ c.side_kind.ensures c.if-side_kind-w.true in
     record {
       end_is = sym (stops (past a.side) _ t.i inside stop) ∙ t.invariant.1;
       sum_is = done _ _ (run-stops a.side _ t.i inside stop) t.invariant.2;
       fits = t.invariant.0;
     }
 
-loop-again : tie.Need-loop-preserved invariant-loop decreases-loop
-loop-again c =
-    let b = c.before.before in let l = b.before.before.before in let t = l.before.loop in
-    let a = l.before.before.before.before.before.args in
-    let inside = l.loop-test.true in let go = is_within a.side _ b.before.side-kind.ensures b.if1.false in (
+pub loop-i-preserved : goal.loop-i-preserved
+loop-i-preserved c =
+    let t = c.loop-i in
+    let a = c.args in
+    let inside = c.loop-i-test.true in let go = is_within a.side _ c.side_kind.ensures c.if-side_kind-w.false in (
       search rules,
       sym (goes (past a.side) _ t.i inside go) ∙ t.invariant.1,
-      rw (c.add.ensures, c.before.term.ensures) (more _ _ (run-goes a.side _ t.i inside go) t.invariant.2),
+      rw (c.add-sum.ensures, c.term.ensures) (more _ _ (run-goes a.side _ t.i inside go) t.invariant.2),
     )
 
-returns-2 : tie.Need-returns-2 invariant-loop decreases-loop
-returns-2 c =
-    let t = c.before.loop in let a = c.before.before.before.before.before.args in
+pub returns : goal.returns
+returns c =
+    let t = c.loop-i in let a = c.args in
     record {
-      end_is = sym (ends (past a.side) _ t.i c.loop-test.false) ∙ t.invariant.1;
-      sum_is = done _ _ (run_ends a.side _ t.i c.loop-test.false) t.invariant.2;
+      end_is = sym (ends (past a.side) _ t.i c.loop-i-test.false) ∙ t.invariant.1;
+      sum_is = done _ _ (run_ends a.side _ t.i c.loop-i-test.false) t.invariant.2;
       fits = t.invariant.0;
     }
-
-pub side_sum_spec : {M : Type 1} → statement M
-side_sum_spec =
-    tie.close
-    (tie.spec invariant-loop decreases-loop (λ c κs. search rules) loop-holds (λ c. search rules) (λ c. search rules) (λ c κs. search rules)
-    returns (λ c κs. search rules) (λ c κs. search rules) (λ c. search rules) (λ c. search rules) loop-again returns-2)

@@ -17,8 +17,7 @@ use Rattle.verdict.specs.Row.{sum_of}
 use Rattle.verdict.specs.RowParts.{run_length, run_terms, sorted}
 use Rattle.verdict.specs.Laws.RowParts.{row-rest, row-rows, row-sides}
 use Rattle.verdict.specs.Promises.{SideSummed, RowSummed}
-use Rattle.verdict.proofs.rows.row_sums.Statement.{statement}
-use Rattle.verdict.proofs.rows.row_sums.Tie as tie
+use Rattle.verdict.proofs.rows.row_sums.Goals as goal
 
 -- the words behind a run
 behind : (side : Side) (ws : List ℕ) (from end : ℕ) → end ≡ from + run_length side (drop from ws)
@@ -58,12 +57,8 @@ module _ (z : ℕ → Gf128) (ws : List ℕ) (from : ℕ) (h : sorted 0 (drop fr
             };
       }
 
-returns : tie.Need-returns
+pub returns : goal.returns
 returns c =
-    let s = c.before.before.before in
-    summed _ _ _ s.before.before.before.before.before.requires.1.1 _ _ _ s.before.before.side-sum.ensures
-    s.before.side-sum2.ensures
-    s.side-sum3.ensures
-
-pub row_sums_spec : {M : Type 1} → statement M
-row_sums_spec = tie.close (tie.spec (λ c κs. search rules) (λ c κs. search rules) (λ c κs. search rules) returns)
+    summed _ _ _ c.requires.1.1 _ _ _ c.side_sum-a.ensures
+    c.side_sum-b.ensures
+    c.side_sum-c.ensures

@@ -20,8 +20,7 @@ use Rattle.verdict.specs.Order.{is_fld_mark}
 use Rattle.verdict.specs.Laws.Split.{Split, InOrder, in_order}
 use Rattle.verdict.specs.StillToTest.{all_parts}
 use Rattle.verdict.specs.Row.{cycle_of}
-use Rattle.verdict.proofs.walk.walk.Statement.{statement}
-use Rattle.verdict.proofs.walk.walk.Tie as tie
+use Rattle.verdict.proofs.walk.walk.Goals as goal
 
 -- the words from an index on
 tail : (ws : List ℕ) (n : ℕ) → take (length ws - n) (drop n ws) ≡ drop n ws
@@ -47,44 +46,38 @@ parts ws n e o =
       ),
     )
 
-slice-aggregate-walk-parts : tie.Need-slice-aggregate-walk-parts
-slice-aggregate-walk-parts c =
-    let e = c.before.first-fld.ensures in let o = in_order _ c.before.before.before.before.requires.1.1 in
-    sym (length-take-le c.before.first-fld.result _ (omega (arith, o.inside)))
+pub slice_bounds-walk_parts-end : goal.slice_bounds-walk_parts-end
+slice_bounds-walk_parts-end c =
+    let e = c.first_fld-split.ensures in let o = in_order _ c.requires.1.1 in
+    sym (length-take-le c.first_fld-split.result _ (omega (arith, o.inside)))
 
-mul-walk-parts : tie.Need-overflow-mul-walk-parts
-mul-walk-parts c =
-    let e = c.before.first-fld.ensures in
-    let o = in_order _ c.before.before.before.before.requires.1.1 in omega (arith, o.inside, o.few)
+pub offset_bounds-listing-split : goal.offset_bounds-listing-split
+offset_bounds-listing-split c =
+    let e = c.first_fld-split.ensures in
+    let o = in_order _ c.requires.1.1 in omega (arith, o.inside, o.few)
 
-sub-walk-parts : tie.Need-overflow-sub-walk-parts
-sub-walk-parts c =
-    let e = c.before.first-fld.ensures in let o = in_order _ c.before.before.before.before.requires.1.1 in omega (arith, o.inside)
+pub slice_bounds-walk_parts-count : goal.slice_bounds-walk_parts-count
+slice_bounds-walk_parts-count c =
+    let e = c.first_fld-split.ensures in let o = in_order _ c.requires.1.1 in omega (arith, o.inside)
 
-part-walk-parts-start : tie.Need-slice-bounds-walk-parts-start
-part-walk-parts-start c =
-    let e = c.before.first-fld.ensures in let o = in_order _ c.before.before.before.before.requires.1.1 in omega (arith, o.inside)
+pub slice_bounds-walk_parts-start : goal.slice_bounds-walk_parts-start
+slice_bounds-walk_parts-start c =
+    let e = c.first_fld-split.ensures in let o = in_order _ c.requires.1.1 in omega (arith, o.inside)
 
-walk-parts-requires : tie.Need-walk-parts-requires
-walk-parts-requires c κs =
-    let e = c.before.before.first-fld.ensures in let p = c.before.before.before.before.before.requires in
+pub walk_parts-requires : goal.walk_parts-requires
+walk_parts-requires c =
+    let e = c.first_fld-split.ensures in let p = c.requires in
     let o = in_order _ p.1.1 in (
       (allowed-range _ p.0).1,
       (p.1.0, parts _ _ e o),
     )
 
-returns : tie.Need-returns
+pub returns : goal.returns
 unfolding judged
 returns c =
-    let b = c.before.before.before in let a = b.before.before.before.args in let e = b.first-fld.ensures in
-    let o = in_order _ b.before.before.before.requires.1.1 in
-    c.walk-parts.ensures
+    let a = c.args in let e = c.first_fld-split.ensures in
+    let o = in_order _ c.requires.1.1 in
+    c.walk_parts.ensures
     ∙ ap (run (met (cycle_of a.cpi a.batch.now)) none)
-    (ap (λ f. all_parts a.cpi (take b.first-fld.result a.listing.now) f 0) (tail a.listing.now b.first-fld.result)
-    ∙ same-constraints a.cpi a.listing.now b.first-fld.result (subst (Split a.listing.now) (sym e) o.halves))
-
-pub walk_spec : {M : Type 1} → statement M
-walk_spec =
-    tie.close
-    (tie.spec (λ c κs. search rules) slice-aggregate-walk-parts mul-walk-parts sub-walk-parts part-walk-parts-start
-    (λ c. search rules) walk-parts-requires returns)
+    (ap (λ f. all_parts a.cpi (take c.first_fld-split.result a.listing.now) f 0) (tail a.listing.now c.first_fld-split.result)
+    ∙ same-constraints a.cpi a.listing.now c.first_fld-split.result (subst (Split a.listing.now) (sym e) o.halves))

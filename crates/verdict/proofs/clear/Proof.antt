@@ -1,9 +1,0 @@
--- `verdict::clear` meets its contract: all words are written, and each is 0.
--- Assumes nothing.
-use borrow.Author.Rules.{rules}
-use Rattle.base.specs.Laws.Written.{written-zero}
-use Rattle.verdict.proofs.clear.Statement.{statement}
-use Rattle.verdict.proofs.clear.Tie as tie
-
-pub clear_spec : {M : Type 1} → statement M
-clear_spec = tie.close (tie.spec (λ c κs. search rules) (λ c. search rules) (λ c. search (rules, written-zero)))

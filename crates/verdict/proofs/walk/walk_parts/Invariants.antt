@@ -1,0 +1,42 @@
+-- `verdict::walk::walk_parts` meets its contract: at each loop the verdict on what is left, with the counts so far, is the whole verdict.
+-- Assumes nothing.
+use mathlib.Core.Path.{◌≡◌, refl, sym, ap, subst, ◌∙◌}
+use mathlib.Core.Bool.{true}
+use Prim.Native.Nat.{◌+◌, ◌-◌, ◌*◌, ◌≤◌}
+use native.Mathlib.Omega.{arith}
+use borrow.Author.Rules.{rules}
+use borrow.Author.Tests.{not-true, not-false}
+use lib.ListN.{length, drop}
+use Rattle.verdict.specs.Row.{cycle_of}
+use Rattle.verdict.specs.RowParts.{sorted}
+use Rattle.verdict.specs.Laws.RowParts.{at_mark}
+use Rattle.circuit.specs.declared.Relation.{Relation}
+use Rattle.verdict.specs.Counts.{none, counted, rows}
+use Rattle.verdict.specs.Laws.Counts.{rows-counted}
+use Rattle.verdict.specs.Check.{met, run}
+use Rattle.verdict.specs.Laws.StillToTest.{of_parts, relation-step, relation-end, cycle-step, cycle-end, row-end, row_here, along, run_on, run-stop}
+use Rattle.verdict.specs.StillToTest.{all_parts, left_cycles, left_rows}
+use Rattle.verdict.proofs.walk.walk_parts.Given as goal
+
+abbrev pub invariant-rows : goal.invariant-rows
+invariant-rows l = (l.at ≤ length l.part) × (length l.part ≤ 16384) × (rows l.tested ≤ l.relation * 4194304 + l.cycle * 16384 + l.at) × (sorted 3 (drop l.at l.part) ≡ true)
+    × (run (met (cycle_of l.cpi l.batch)) l.tested (left_rows l.cpi l.bin l.fld l.part l.relation l.cycle l.at)
+    ≡ run (met (cycle_of l.cpi l.batch)) none (all_parts l.cpi l.bin l.fld 0))
+
+abbrev pub decreases-rows : goal.decreases-rows
+decreases-rows l = length l.part - l.at
+
+abbrev pub invariant-cycles : goal.invariant-cycles
+invariant-cycles l = (l.cycle ≤ l.cpi) × (rows l.tested ≤ l.relation * 4194304 + l.cycle * 16384)
+    × (run (met (cycle_of l.cpi l.batch)) l.tested (left_cycles l.cpi l.bin l.fld l.relation l.cycle)
+    ≡ run (met (cycle_of l.cpi l.batch)) none (all_parts l.cpi l.bin l.fld 0))
+
+abbrev pub decreases-cycles : goal.decreases-cycles
+decreases-cycles l = l.cpi - l.cycle
+
+abbrev pub invariant-relations : goal.invariant-relations
+invariant-relations l = (l.relation ≤ 2) × (rows l.tested ≤ l.relation * 4194304)
+    × (run (met (cycle_of l.cpi l.batch)) l.tested (all_parts l.cpi l.bin l.fld l.relation) ≡ run (met (cycle_of l.cpi l.batch)) none (all_parts l.cpi l.bin l.fld 0))
+
+abbrev pub decreases-relations : goal.decreases-relations
+decreases-relations l = 2 - l.relation
