@@ -1,6 +1,7 @@
 // Columns as bits of words, 64 columns a word. Here are the words that the check packs for itself, in cycle order: column c of cycle d is
 // bit c % 64 of word 32 · d + c / 64. Packed storage of a batch is in `storage`.
 #![tactic(auto)]
+
 mod many;
 mod one;
 mod order;

@@ -1,6 +1,7 @@
 // What is printed: the bench page, which lays a row of a listing in a cycle of a batch out as paper (document 02, request 1), and the
 // line of an answer.
 #![tactic(auto)]
+
 pub mod line;
 mod lines;
 

@@ -3,7 +3,7 @@
 use Rattle.std.specs.Prelude.{◌≡◌, ℕ, zero, suc, ◌+◌, ◌-◌, ◌*◌, ◌/◌, ◌%◌, ◌^◌, ◌<◌, Bool, true, false, not, ◌&&◌, ◌↔◌, List, [], ◌∷◌, ◌==◌, slice_index_or}
 use Rattle.std.proofs.Math.Path.{refl}
 use Rattle.std.proofs.Common.{sym, ap, ◌∙◌, mod-eq_of_lt, arith, eqb-true, eq-eqb}
-use Rattle.std.proofs.Math.Logic.{Iff·trans}
+use Rattle.std.proofs.Math.Logic.Iff.{trans as iff_trans}
 use Rattle.std.proofs.lemmas.Bool.{false≢true, not-true}
 use Rattle.base.specs.Bits.{◌⊻◌, word, Carries}
 use Rattle.base.specs.Laws.Tests.{both_so}
@@ -65,7 +65,7 @@ module _ (b : ℕ → Bool) (output : Gf128) where
 
   lane-so : (k j : ℕ) → k < 8 → j < 8
       → ((byte_of (word b RD 64) k == byte_of (word b LOAD-VAL 64) j) ≡ true) ↔ (byte b RD k ≡ byte b LOAD-VAL j)
-  lane-so k j l m = Iff·trans (equal _ _) (instead (byte-in RD k l) (byte-in LOAD-VAL j m))
+  lane-so k j l m = iff_trans (equal _ _) (instead (byte-in RD k l) (byte-in LOAD-VAL j m))
 
   upper : word b RD 64 / 2 ^ 16 ≡ word b (RD + 16) 48
   upper =
@@ -80,21 +80,21 @@ module _ (b : ℕ → Bool) (output : Gf128) where
       all =
           where-so (b IS-ARITH) (equal _ _)
           also where-so (b IS-SHIFT) (equal _ _)
-          also Iff·trans (where-so (b WE && not (b IS-LOAD)) (equal _ _)) (but-not (b WE) (b IS-LOAD))
-          also Iff·trans (where-so (opcode b == 0x73) (both_so _ _ (equal _ _) (same-is _ _))) (but-equal (opcode b) 0x73)
+          also iff_trans (where-so (b WE && not (b IS-LOAD)) (equal _ _)) (but-not (b WE) (b IS-LOAD))
+          also iff_trans (where-so (opcode b == 0x73) (both_so _ _ (equal _ _) (same-is _ _))) (but-equal (opcode b) 0x73)
           also where-so (b LD-WORD) (equal _ _)
           also where-so (b LD-BYTE) (lane-so 0 (offset b) (omega arith) (offset-lt b))
           also where-so (b LD-HALF)
           (both_so _ _ (lane-so 0 (offset b) (omega arith) (offset-lt b)) (lane-so 1 ((offset b + 1) % 8) (omega arith) (omega arith)))
-          also Iff·trans (where-so (b IS-LOAD && not (b LD-WORD)) (Iff·trans (equal _ _) (instead upper refl)))
+          also iff_trans (where-so (b IS-LOAD && not (b LD-WORD)) (iff_trans (equal _ _) (instead upper refl)))
           (but-not (b IS-LOAD) (b LD-WORD))
-          also Iff·trans
-          (where-so (b IS-LOAD && not (b LD-WORD) && not (b LD-HALF)) (Iff·trans (equal _ _) (instead (byte-in RD 1 (omega arith)) refl)))
-          (Iff·trans (but-not (b IS-LOAD && not (b LD-WORD)) (b LD-HALF)) (but-not (b IS-LOAD) (b LD-WORD)))
-          also where-so (b IS-LOAD ⊻ b IS-STORE) (Iff·trans (equal _ _) (instead refl (word-part b ALU 64 3 8 (omega arith))))
+          also iff_trans
+          (where-so (b IS-LOAD && not (b LD-WORD) && not (b LD-HALF)) (iff_trans (equal _ _) (instead (byte-in RD 1 (omega arith)) refl)))
+          (iff_trans (but-not (b IS-LOAD && not (b LD-WORD)) (b LD-HALF)) (but-not (b IS-LOAD) (b LD-WORD)))
+          also where-so (b IS-LOAD ⊻ b IS-STORE) (iff_trans (equal _ _) (instead refl (word-part b ALU 64 3 8 (omega arith))))
           also end
 
   -- the test of condition 1, over the carries into each bit
   pub arithmetic-bits : (c : ℕ → Bool) → Carries 63 (λ i. b (T1 + i)) (λ i. b (T2 + i)) c → c 0 ≡ b SUB
       → (met 1 ≡ true) ↔ (b IS-ARITH ≡ true → (i : ℕ) → i < 64 → b (ALU + i) ≡ b (T1 + i) ⊻ b (T2 + i) ⊻ c i)
-  arithmetic-bits c h e = Iff·trans (each-met 1) (sum-bits b output c h e)
+  arithmetic-bits c h e = iff_trans (each-met 1) (sum-bits b output c h e)

@@ -4,7 +4,7 @@
 use Rattle.std.specs.Prelude.{◌≡◌, ℕ, zero, suc, ◌+◌, ◌-◌, ◌<◌, ◌≤◌, Bool, true, false, cond, not, ◌&&◌, ◌↔◌, List, [], ◌∷◌, length, get_or, nat_lt, slice_index_or}
 use Rattle.std.proofs.Math.Path.{refl, sym, ap}
 use Rattle.std.proofs.Common.{ap₂, ◌∙◌, not-suc-le-zero, le_of_suc-le-suc}
-use Rattle.std.proofs.Math.Logic.{Iff·trans}
+use Rattle.std.proofs.Math.Logic.Iff.{trans as iff_trans}
 use Rattle.std.proofs.Math.Bool.{true≢false}
 use native.Mathlib.Omega.{arith}
 use borrow.Author.Tests.{lt-ltb, ltb-true, ltb-false, not-true, not-false}
@@ -150,7 +150,7 @@ module _ (b : ℕ → Bool) (output : Gf128) where
   pub meets-all : (first_unmet b output ≡ Meets) ↔ Step b output
   unfolding first_unmet first_false conditions
   meets-all =
-      Iff·trans (
+      iff_trans (
         λ e. at_all tests (λ k l. let s : k ≡ k + 1 - 1 = omega arith in
             ap (λ (j : ℕ). get_or tests j false) s ∙ all-met e (k + 1) (omega arith) (omega arith)),
         true-meets,
@@ -166,7 +166,7 @@ module _ (cpi : ℕ) (batch : List ℕ) (d : ℕ) (yes : fill_asked cpi batch �
 
   pub answer-meets : (step_answer cpi batch d ≡ Meets) ↔ Step (bits_of cpi batch d) (cycle_of cpi batch d (ONE-COL + 1))
   answer-meets =
-      Iff·trans (λ e. sym answer-is ∙ e, λ e. answer-is ∙ e) (meets-all (bits_of cpi batch d) (cycle_of cpi batch d (ONE-COL + 1)))
+      iff_trans (λ e. sym answer-is ∙ e, λ e. answer-is ∙ e) (meets-all (bits_of cpi batch d) (cycle_of cpi batch d (ONE-COL + 1)))
 
   pub answer-names : (k : ℕ) → step_answer cpi batch d ≡ Unmet k → FirstUnmet (bits_of cpi batch d) (cycle_of cpi batch d (ONE-COL + 1)) k
   answer-names k e = names-first (bits_of cpi batch d) (cycle_of cpi batch d (ONE-COL + 1)) k (sym answer-is ∙ e)

@@ -3,7 +3,7 @@
 -- Assumes nothing.
 use Rattle.std.specs.Prelude.{◌≡◌, ◌↔◌, Bool, true, List, ℕ, ◌<◌, length}
 use Rattle.std.proofs.Common.{sym, ◌∙◌}
-use Rattle.std.proofs.Math.Logic.{Iff·trans}
+use Rattle.std.proofs.Math.Logic.Iff.{trans as iff_trans}
 use Rattle.base.specs.Lists.{All}
 use Rattle.base.specs.Laws.Tests.{both_so}
 use Rattle.base.specs.Blocks.{Block, in_blocks}
@@ -56,4 +56,4 @@ module _ (cpi : ℕ) (batch : List ℕ) (words : length batch ≡ batch_words cp
   unfolding judged_cycle word_at
   judged-exactly k output =
       both_so _ _ (all_known_lem z output k)
-      (Iff·trans (all-written z ks) (Iff·trans (blocks-agree (filled_bits z) z ks (filled-bits cpi batch words d inside one)) every-derived))
+      (iff_trans (all-written z ks) (iff_trans (blocks-agree (filled_bits z) z ks (filled-bits cpi batch words d inside one)) every-derived))

@@ -85,7 +85,8 @@ bit-words batch x n e l =
     (as-digit (slice_index batch (2 * x)) b.0 ∙ ap (λ (k : ℕ). digit (k == 1)) (sym (low-words _ _)), omega (arith, b.1))
 
 digit-bit : (b : Bool) → (digit b == 1) ≡ b
-digit-bit b = elim b [ true ↦ refl | false ↦ refl ]
+digit-bit true = refl
+digit-bit false = refl
 
 -- ---- the round trips
 

@@ -3,7 +3,7 @@
 use Rattle.std.specs.Prelude.{◌≡◌, ◌↔◌, Bool, true, false, ◌&&◌, List, [], ◌∷◌, ℕ, ◌+◌, ◌*◌, ◌-◌, ◌≤◌, ◌<◌, leb}
 use Rattle.std.proofs.Math.Path.{refl}
 use Rattle.std.proofs.Common.{sym, ap, ◌∙◌, arith, leb-true}
-use Rattle.std.proofs.Math.Logic.{Iff·trans}
+use Rattle.std.proofs.Math.Logic.Iff.{trans as iff_trans}
 use Rattle.base.specs.Lists.{joined, All, from, from_each}
 use Rattle.base.specs.Bits.{word}
 use Rattle.base.specs.Laws.Values.{val_same, same_bits_lem, no_bits}
@@ -64,7 +64,7 @@ module _ (z : ℕ → Gf128) (b : ℕ → Bool) (o : OfBits z b) where
 
   agree : (n x y w : ℕ) → n ≤ 64 → x ≤ 1127 → y + n ≤ 1127 → w + n ≤ 1127 → Met (agree_row n x y w) ↔ Same b n x y w
   agree n x y w l m p q =
-      Iff·trans (agree-row z b o.bits n x y w l (omega arith) (omega arith) (omega arith))
+      iff_trans (agree-row z b o.bits n x y w l (omega arith) (omega arith) (omega arith))
       (λ h e. val_same _ _ n (h e), λ h e. same_bits_lem _ _ n (h e))
 
   -- of words at columns that are written out

@@ -2,7 +2,7 @@
 -- Assumes nothing.
 use Rattle.std.specs.Prelude.{◌≡◌, refl, ◌↔◌, Bool, true, false, not, ◌&&◌, List, [], ◌∷◌, ℕ, ◌+◌, eqb}
 use Rattle.std.proofs.Common.{sym, ap, ap₂, ◌∙◌, arith, eqb-true, eq-eqb}
-use Rattle.std.proofs.Math.Logic.{Iff·trans}
+use Rattle.std.proofs.Math.Logic.Iff.{trans as iff_trans}
 use Rattle.std.proofs.lemmas.Bool.{false≢true, not-true}
 use Rattle.base.specs.Lists.{All}
 use Rattle.base.specs.Bits.{digit, ◌⊻◌}
@@ -99,7 +99,7 @@ pub meaning : (k : Known) (b : ℕ → Bool) (output : Gf128) → b ONE-COL ≡ 
     → ConditionsOf k b output ↔ (Step b output × All (Holds b) (further_rows k))
 meaning House b output one = (λ s. (s, tt), λ m. m.0)
 meaning Strict b output one =
-    let rows = Iff·trans (flag-rows b one) (flags-clauses b) in (
+    let rows = iff_trans (flag-rows b one) (flags-clauses b) in (
       λ s. (s.ten, rows.1 (s.apart, (s.one_width, s.no-width))),
       λ m. let c = rows.0 m.1 in record { ten = m.0; apart = c.0; one_width = c.1.0; no-width = c.1.1 },
     )

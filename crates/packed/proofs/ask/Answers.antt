@@ -1,0 +1,22 @@
+-- `packed::ask` meets its contract: questions 1 and 2, and then the one on the room.
+-- Assumes nothing.
+use Rattle.std.proofs.Common.{sym, ◌∙◌, arith, rules}
+use Rattle.layout.specs.Laws.Questions.{batch-yes, asking}
+use Rattle.layout.specs.Laws.Sizes.{allowed-range}
+use Rattle.packed.specs.Packed.{pack_asked}
+use Rattle.packed.proofs.ask.Goals as goal
+
+pub overflow_mul-cpi : goal.overflow_mul-cpi
+overflow_mul-cpi c = omega (arith, allowed-range _ (batch-yes _ _ (sym c.ask_batch.ensures ∙ c.in-Yes.is)).0)
+
+pub returns-then-room-cpi : goal.returns-then-room-cpi
+unfolding pack_asked
+returns-then-room-cpi c = search asking
+
+pub returns-in-No : goal.returns-in-No
+unfolding pack_asked
+returns-in-No c = search asking
+
+pub returns-else-room-cpi : goal.returns-else-room-cpi
+unfolding pack_asked
+returns-else-room-cpi c = search asking

@@ -1,0 +1,12 @@
+-- `packed::many::put_words` meets its contract: the cycles passed have their word, and nothing else moved.
+-- Assumes nothing.
+use Rattle.std.proofs.Common.{◌≡◌, ℕ, ◌-◌, ◌≤◌, length, subst, arith, rules}
+use Rattle.packed.specs.Ranges.{Scattered}
+use Rattle.packed.specs.Laws.Ranges.{first-scattered, next-scattered}
+use Rattle.packed.proofs.many.put_words.Given as goal
+
+abbrev pub invariant-loop-d : goal.invariant-loop-d
+invariant-loop-d l = (l.d ≤ length l.acc) × Scattered l.acc l.k l.d l.initial.out l.out
+
+abbrev pub decreases-loop-d : goal.decreases-loop-d
+decreases-loop-d l = length l.acc - l.d

@@ -1,0 +1,12 @@
+-- `packed::one::pack_words` meets its contract: the words passed stand in their places.
+-- Assumes nothing.
+use Rattle.std.proofs.Common.{◌-◌, ◌≤◌, arith, rules}
+use Rattle.packed.specs.One.{InRow}
+use Rattle.packed.specs.Laws.One.{no_row, next_row, row_ends}
+use Rattle.packed.proofs.one.pack_words.Given as goal
+
+abbrev pub invariant-loop-k : goal.invariant-loop-k
+invariant-loop-k l = (l.first ≤ l.k) × ((l.k ≤ l.last) × InRow l.batch l.first l.k l.initial.out l.out l.bad)
+
+abbrev pub decreases-loop-k : goal.decreases-loop-k
+decreases-loop-k l = l.last - l.k

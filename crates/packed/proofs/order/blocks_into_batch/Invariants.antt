@@ -1,0 +1,11 @@
+-- `packed::order::blocks_into_batch` meets its contract: the blocks passed stand in batch order.
+-- Assumes nothing.
+use Rattle.std.proofs.Common.{◌+◌, ◌-◌, ◌*◌, ◌≤◌, ◌∙◌, arith, rules}
+use Rattle.packed.specs.Laws.Order.{Going, no_block, block-end, block-length, block_written, written-length, words-got, more-alike, batch-end}
+use Rattle.packed.proofs.order.blocks_into_batch.Given as goal
+
+abbrev pub invariant-loop-q : goal.invariant-loop-q
+invariant-loop-q l = Going l.cpi l.out l.words l.a l.b l.out l.q
+
+abbrev pub decreases-loop-q : goal.decreases-loop-q
+decreases-loop-q l = 32 - l.q

@@ -1,0 +1,11 @@
+-- `packed::order::blocks_into_cycles` meets its contract: the blocks passed stand in cycle order.
+-- Assumes nothing.
+use Rattle.std.proofs.Common.{◌+◌, ◌-◌, ◌*◌, ◌≤◌, ◌∙◌, arith, rules}
+use Rattle.packed.specs.Laws.Order.{Going, no_block, block-end, block-length, block_read, words-put, more-alike, cycles-end}
+use Rattle.packed.proofs.order.blocks_into_cycles.Given as goal
+
+abbrev pub invariant-loop-q : goal.invariant-loop-q
+invariant-loop-q l = Going l.cpi l.words l.out l.a l.b l.out l.q
+
+abbrev pub decreases-loop-q : goal.decreases-loop-q
+decreases-loop-q l = 32 - l.q

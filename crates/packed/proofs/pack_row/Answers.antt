@@ -1,0 +1,20 @@
+-- `packed::pack_row` meets its contract: the questions in their order, and then the words.
+-- Assumes nothing.
+use Rattle.std.proofs.Common.{rules}
+use Rattle.base.specs.Laws.WaysOut.{told}
+use Rattle.layout.specs.Laws.Questions.{asking}
+use Rattle.packed.specs.Packed.{named_called}
+use Rattle.packed.specs.Laws.Named.{asked-yes-in, called-named}
+use Rattle.packed.proofs.pack_row.Goals as goal
+
+pub pack_one-requires : goal.pack_one-requires
+unfolding named_called
+pack_one-requires c = search (asked-yes-in, told)
+
+pub returns-in-No : goal.returns-in-No
+unfolding named_called
+returns-in-No c = search asking
+
+pub returns-in-Yes : goal.returns-in-Yes
+unfolding named_called
+returns-in-Yes c = search (called-named, asked-yes-in, told)

@@ -1,0 +1,16 @@
+-- `packed::storage::rearrange` meets its contract: the questions in their order, and then the words.
+-- Assumes nothing.
+use Rattle.base.specs.Laws.WaysOut.{told}
+use Rattle.layout.specs.Laws.Questions.{called-yes, called-no}
+use Rattle.packed.specs.Laws.StorageCalls.{order-in}
+use Rattle.std.proofs.Common.{rules}
+use Rattle.packed.proofs.storage.rearrange.Goals as goal
+
+pub put_into-requires : goal.put_into-requires
+put_into-requires c = search (order-in, told)
+
+pub returns-in-No : goal.returns-in-No
+returns-in-No c = search (called-no, told)
+
+pub returns-in-Yes : goal.returns-in-Yes
+returns-in-Yes c = search (called-yes, told)

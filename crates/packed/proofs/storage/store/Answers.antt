@@ -1,0 +1,19 @@
+-- `packed::storage::store` meets its contract: the questions in their order; the words only where the last is answered with yes.
+-- Assumes nothing.
+use Rattle.base.specs.Laws.WaysOut.{told}
+use Rattle.packed.specs.Laws.Named.{asked-yes-in}
+use Rattle.packed.specs.Laws.Stored.{stored-none, stored_no, stored-yes}
+use Rattle.std.proofs.Common.{rules}
+use Rattle.packed.proofs.storage.store.Goals as goal
+
+pub hand-requires : goal.hand-requires
+hand-requires c = search (asked-yes-in, told)
+
+pub returns-then-not-hand : goal.returns-then-not-hand
+returns-then-not-hand c = search (stored_no, asked-yes-in, told)
+
+pub returns-in-No : goal.returns-in-No
+returns-in-No c = search (stored-none, told)
+
+pub returns-else-not-hand : goal.returns-else-not-hand
+returns-else-not-hand c = search (stored-yes, asked-yes-in, told)

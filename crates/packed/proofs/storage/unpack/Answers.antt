@@ -1,0 +1,15 @@
+-- `packed::storage::unpack` meets its contract: the questions in their order, and then the columns.
+-- Assumes nothing.
+use Rattle.std.proofs.Common.{sym, ◌∙◌, rules}
+use Rattle.base.specs.Laws.WaysOut.{told}
+use Rattle.packed.specs.Laws.Unpack.{unpack-in, unpack-none, unpack-yes}
+use Rattle.packed.proofs.storage.unpack.Goals as goal
+
+pub lay_words-requires : goal.lay_words-requires
+lay_words-requires c = unpack-in _ _ _ (sym c.ask.ensures ∙ c.in-Yes.is)
+
+pub returns-in-No : goal.returns-in-No
+returns-in-No c = search (unpack-none, told)
+
+pub returns-in-Yes : goal.returns-in-Yes
+returns-in-Yes c = search (unpack-yes, told)

@@ -1,0 +1,12 @@
+-- `packed::turn::unqueue` meets its contract: the pairs passed stand in the two halves, exchanged back.
+-- Assumes nothing.
+use Rattle.std.proofs.Common.{◌-◌, arith, length-set, rules}
+use Rattle.packed.specs.Turn.{halves, neighbours}
+use Rattle.packed.specs.Laws.Queue.{Pairs, halves-apart, first-pairs, next-pairs, undone}
+use Rattle.packed.proofs.turn.unqueue.Given as goal
+
+abbrev pub invariant-loop-k : goal.invariant-loop-k
+invariant-loop-k l = Pairs l.j neighbours (halves l.h) l.h l.b l.a l.k
+
+abbrev pub decreases-loop-k : goal.decreases-loop-k
+decreases-loop-k l = l.h - l.k

@@ -1,0 +1,14 @@
+-- `page::line::place_answer` meets its contract: each arm places the texts of its case, one behind the other.
+-- Assumes nothing.
+use native.Mathlib.Omega.{arith}
+use borrow.Author.Rules.{rules}
+use Rattle.text.specs.Laws.Put.{placed-then}
+use Rattle.page.proofs.line.place_answer.Goals as goal
+
+pub returns-in-Judged : goal.returns-in-Judged
+returns-in-Judged c = rw c.in-Judged.is c.place_verdict.ensures
+
+pub returns-in-Refused : goal.returns-in-Refused
+returns-in-Refused c =
+    rw c.answer-in-Refused-1.given.1
+    (placed-then (omega arith) (placed-then (omega arith) c.place-number.ensures c.place_decimal-end.ensures.0) c.place.ensures)

@@ -1,0 +1,36 @@
+-- `page::lines::put_term` meets its contract: the mapping gives the batch column, and refuses no column of a cycle of the batch.
+-- Assumes nothing.
+use mathlib.Core.Path.{sym, ◌∙◌}
+use borrow.Author.Rules.{rules}
+use native.Mathlib.Omega.{arith}
+use Rattle.text.specs.Laws.Put.{placed-as}
+use Rattle.layout.specs.Laws.Mapping.{column-inside}
+use Rattle.layout.specs.Laws.Sizes.{allowed-range}
+use Rattle.page.specs.Laws.Places.{placed-column, never-refused, term-line}
+use Rattle.page.proofs.lines.put_term.Goals as goal
+
+pub put_placed-requires : goal.put_placed-requires
+put_placed-requires c =
+    let b = c.requires.1.0 in
+    let e = placed-column c.args.cpi c.args.column c.args.cycle _ b.size c.requires.1.1.0 b.inside (sym
+    c.map_z_col.ensures ∙ c.in-At.is) in
+    let l = column-inside c.args.cpi c.args.column c.args.cycle c.requires.1.1.0 b.inside in
+    let w = b.words in let s = allowed-range _ b.size in
+    (c.requires.0, (omega arith, (omega arith, c.requires.1.1.1)))
+
+pub returns-in-At : goal.returns-in-At
+returns-in-At c =
+    let b = c.requires.1.0 in (
+      placed-as _ _ _ _ _ _
+          (term-line c.args.cpi c.args.cycle c.args.column _ c.args.batch.now c.args.side c.args.k
+          (placed-column c.args.cpi c.args.column c.args.cycle _ b.size c.requires.1.1.0 b.inside
+          (sym c.map_z_col.ensures ∙ c.in-At.is)))
+          c.put_placed.ensures.0,
+      c.put_placed.ensures.1,
+    )
+
+pub returns-in-Refused : goal.returns-in-Refused
+returns-in-Refused c =
+    let b = c.requires.1.0 in
+    absurd (never-refused c.args.cpi c.args.column c.args.cycle _ b.size c.requires.1.1.0 b.inside
+    (sym c.map_z_col.ensures ∙ c.in-Refused.is))

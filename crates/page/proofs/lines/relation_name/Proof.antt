@@ -1,9 +1,0 @@
--- `page::lines::relation_name` meets its contract: each arm gives the text of its case.
--- Assumes nothing.
-use borrow.Author.Rules.{rules}
-use Rattle.page.proofs.lines.relation_name.Statement.{statement}
-use Rattle.page.proofs.lines.relation_name.Tie as tie
-
-pub relation_name_spec : {M : Type 1} → statement M
-relation_name_spec = tie.close (tie.spec (λ c. search rules) (λ c. search rules) (λ c. rw c.before.before.enum_told.given.1)
-    (λ c. rw c.before.before.enum-told2.given.1))
