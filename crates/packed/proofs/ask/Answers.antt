@@ -6,8 +6,16 @@ use Rattle.layout.specs.Laws.Sizes.{allowed-range}
 use Rattle.packed.specs.Packed.{pack_asked}
 use Rattle.packed.proofs.ask.Goals as goal
 
+pub ask_batch-requires : goal.ask_batch-requires
+unfolding pack_asked
+ask_batch-requires c = search rules
+
 pub overflow_mul-cpi : goal.overflow_mul-cpi
 overflow_mul-cpi c = omega (arith, allowed-range _ (batch-yes _ _ (sym c.ask_batch.ensures ∙ c.in-Yes.is)).0)
+
+pub refused-requires : goal.refused-requires
+unfolding pack_asked
+refused-requires c = search rules
 
 pub returns-then-room-cpi : goal.returns-then-room-cpi
 unfolding pack_asked

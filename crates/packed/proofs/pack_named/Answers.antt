@@ -7,9 +7,17 @@ use Rattle.packed.specs.Packed.{named_called}
 use Rattle.packed.specs.Laws.Named.{asked-yes-in, called-named}
 use Rattle.packed.proofs.pack_named.Goals as goal
 
+pub ask-requires : goal.ask-requires
+unfolding named_called
+ask-requires c = search rules
+
 pub pack-requires : goal.pack-requires
 unfolding named_called
 pack-requires c = search (asked-yes-in, told)
+
+pub answer-requires : goal.answer-requires
+unfolding named_called
+answer-requires c = search rules
 
 pub returns-in-No : goal.returns-in-No
 unfolding named_called

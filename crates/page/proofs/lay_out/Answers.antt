@@ -6,6 +6,10 @@ use Rattle.layout.specs.Laws.Questions.{asking, batch-yes}
 use Rattle.page.specs.Pages.{laid_out}
 use Rattle.page.proofs.lay_out.Goals as goal
 
+pub ask_batch-requires : goal.ask_batch-requires
+unfolding laid_out
+ask_batch-requires c = search rules
+
 pub lay_row-requires : goal.lay_row-requires
 lay_row-requires c = batch-yes _ _ (sym c.ask_batch.ensures ∙ c.in-Yes.is)
 

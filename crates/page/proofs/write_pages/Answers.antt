@@ -55,7 +55,7 @@ returns c =
     let lines = placed-then (omega arith) (placed-as _ _ _ _ _ _ (ap (head_line x.relation) number) c.put_head-head.ensures.0)
     c.put_words-last.ensures.0 in
     pages-put (row_lines x.cpi batch x.cycle x.relation x.row (sides_at listing x.start)) _ _ _ _
-    (length c.put_words-last.new.0 - c.put_words-last.result) _
+    (length c.put_words-last.new.page - c.put_words-last.result) _
     (placed-as _ _ _ _ _ _ (ap joined (sym (row-lines x.cpi batch x.cycle listing x.start x.end x.relation
     x.row w))) lines)
     c.put_left.ensures

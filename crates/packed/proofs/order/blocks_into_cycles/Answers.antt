@@ -4,30 +4,27 @@ use Rattle.std.proofs.Common.{◌+◌, ◌-◌, ◌*◌, ◌≤◌, ◌∙◌, a
 use Rattle.packed.specs.Laws.Order.{Going, no_block, block-end, block-length, block_read, words-put, more-alike, cycles-end}
 use Rattle.packed.proofs.order.blocks_into_cycles.Goals as goal
 
-inside : (c : tie.In-loop invariant-loop decreases-loop) → let cpi = c.before.before.before.before.before.before.args.cpi in
-    c.before.loop.q * cpi + cpi ≤ 32 * cpi
-inside c = block-end _ _ c.loop-test.true
 
 pub loop-q-init : goal.loop-q-init
 loop-q-init c = no_block _ _ _ _ _ _ _ c.requires (λ k l. omega (arith, c.slice_known-3-1.given k))
 
 pub overflow_mul-start : goal.overflow_mul-start
-overflow_mul-start c = omega (arith, inside c)
+overflow_mul-start c = omega (arith, block-end c.args.cpi c.loop-q.q c.loop-q-test.true)
 
 pub overflow_add-end : goal.overflow_add-end
-overflow_add-end c = omega (arith, inside c)
+overflow_add-end c = omega (arith, block-end c.args.cpi c.loop-q.q c.loop-q-test.true)
 
 pub offset_bounds-words-start : goal.offset_bounds-words-start
-offset_bounds-words-start c = omega (arith, inside c)
+offset_bounds-words-start c = omega (arith, block-end c.args.cpi c.loop-q.q c.loop-q-test.true)
 
 pub slice_bounds-turn-count : goal.slice_bounds-turn-count
-slice_bounds-turn-count c = omega (arith, inside c)
+slice_bounds-turn-count c = omega (arith, block-end c.args.cpi c.loop-q.q c.loop-q-test.true)
 
 pub slice_bounds-turn-start : goal.slice_bounds-turn-start
-slice_bounds-turn-start c = omega (arith, inside c)
+slice_bounds-turn-start c = omega (arith, block-end c.args.cpi c.loop-q.q c.loop-q-test.true)
 
 pub slice_bounds-turn-end : goal.slice_bounds-turn-end
-slice_bounds-turn-end c = omega (arith, inside c)
+slice_bounds-turn-end c = omega (arith, block-end c.args.cpi c.loop-q.q c.loop-q-test.true)
 
 pub turn-requires : goal.turn-requires
 turn-requires c =

@@ -10,5 +10,5 @@ returns-in-Judged c = rw c.in-Judged.is c.place_verdict.ensures
 
 pub returns-in-Refused : goal.returns-in-Refused
 returns-in-Refused c =
-    rw c.answer-in-Refused-1.given.1
+    rw c.in-Refused.is
     (placed-then (omega arith) (placed-then (omega arith) c.place-number.ensures c.place_decimal-end.ensures.0) c.place.ensures)

@@ -4,7 +4,7 @@ use borrow.Author.Rules.{rules}
 use Rattle.page.proofs.line.place_failed.Goals as goal
 
 pub returns-in-Bin : goal.returns-in-Bin
-returns-in-Bin c = rw c.enum_told-1.given.1 (c.place.ensures, c.place.ensures.answer-is)
+returns-in-Bin c = rw c.in-Bin.is (c.place.ensures, c.place.ensures.answer-is)
 
 pub returns-in-Fld : goal.returns-in-Fld
-returns-in-Fld c = rw c.enum_told-in-Fld-1.given.1 (c.place-in-Fld.ensures, c.place-in-Fld.ensures.answer-is)
+returns-in-Fld c = rw c.in-Fld.is (c.place-in-Fld.ensures, c.place-in-Fld.ensures.answer-is)

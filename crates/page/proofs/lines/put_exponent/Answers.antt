@@ -15,4 +15,4 @@ pub returns-in-Power : goal.returns-in-Power
 returns-in-Power c = rw c.in-Power.is c.put_right.ensures
 
 pub returns-in-Zero : goal.returns-in-Zero
-returns-in-Zero c = rw c.enum_told-1.given.1 c.put_in.ensures
+returns-in-Zero c = rw c.in-Zero.is c.put_in.ensures

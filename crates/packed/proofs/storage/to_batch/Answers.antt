@@ -1,0 +1,13 @@
+-- `packed::storage::to_batch` meets its contract: it is the call in its order.
+-- Assumes nothing.
+use Rattle.packed.specs.Storage.{to_batch_called}
+use Rattle.std.proofs.Common.{rules}
+use Rattle.packed.proofs.storage.to_batch.Goals as goal
+
+pub rearrange-requires : goal.rearrange-requires
+unfolding to_batch_called
+rearrange-requires c = search rules
+
+pub returns : goal.returns
+unfolding to_batch_called
+returns c = search rules
