@@ -1,5 +1,6 @@
 // The step conditions and the filling.
 #![tactic(auto)]
+
 mod bits;
 pub mod conditions;
 pub mod derive;

@@ -1,0 +1,9 @@
+-- `filler::conditions::conditions` meets its contract: each element is the condition of its place.
+-- Assumes nothing.
+use Rattle.std.proofs.Common.{rules}
+use Rattle.filler.specs.Met.{conditions}
+use Rattle.filler.proofs.conditions.conditions.Goals as goal
+
+pub returns : goal.returns
+unfolding conditions
+returns c = cc

@@ -1,0 +1,14 @@
+-- `filler::conditions::first_false` meets its contract: the search from here finds what the whole search does, at every turn.
+-- Assumes nothing.
+use Rattle.std.proofs.Common.{◌≡◌, ℕ, ◌-◌, ◌≤◌, Bool, not, List, sym, refl, ap, ◌∙◌, arith, rules, le-ltb, lt-ltb}
+use Rattle.base.specs.Laws.Tests.{passed, refused}
+use Rattle.base.specs.Tests.{first_from}
+use Rattle.base.specs.Laws.First.{first_stops, first_goes, first_ends}
+use Rattle.filler.specs.Met.{numbered, named, first_false}
+use Rattle.filler.proofs.conditions.first_false.Given as goal
+
+abbrev pub invariant-loop-k : goal.invariant-loop-k
+invariant-loop-k l = (1 ≤ l.k) × ((l.k ≤ 11) × (first_from (fails l.met) l.k (11 - l.k) ≡ first_from (fails l.met) 1 10))
+
+abbrev pub decreases-loop-k : goal.decreases-loop-k
+decreases-loop-k l = 11 - l.k

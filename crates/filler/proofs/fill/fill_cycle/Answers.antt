@@ -1,0 +1,11 @@
+-- `filler::fill::fill_cycle` meets its contract: the given words are read before any is written, and the blocks are written in three parts.
+-- Assumes nothing.
+use Rattle.std.proofs.Common.{rules}
+use Rattle.filler.specs.Laws.Loops.{cycle-is}
+use Rattle.filler.proofs.fill.fill_cycle.Goals as goal
+
+pub returns : goal.returns
+returns c =
+    let a = c.args in
+    cycle-is a.cpi a.cycle a.batch.now c.read_given-g.ensures c.derive-w.ensures c.write_low.ensures
+    c.write_flags.ensures c.write_high.ensures

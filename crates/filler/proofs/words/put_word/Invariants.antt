@@ -1,0 +1,13 @@
+-- `filler::words::put_word` meets its contract: the columns passed hold the bits of w, and `rest` is w without them.
+-- Assumes nothing.
+use Rattle.std.proofs.Common.{◌≡◌, ℕ, ◌-◌, ◌/◌, ◌^◌, ◌≤◌, length, sym, refl, ap, ◌∙◌, div-one, arith, rules}
+use Rattle.filler.specs.Blocks.{put_word}
+use Rattle.base.specs.Laws.Words.{half-turn}
+use Rattle.filler.specs.Laws.Loops.{put-turn}
+use Rattle.filler.proofs.words.put_word.Given as goal
+
+abbrev pub invariant-loop-i : goal.invariant-loop-i
+invariant-loop-i l = (l.i ≤ l.columns) × (l.rest ≡ l.w / 2 ^ l.i) × (length l.batch ≡ length l.initial.batch) × (l.batch ≡ put_word l.cpi l.cycle l.column l.w l.i l.initial.batch)
+
+abbrev pub decreases-loop-i : goal.decreases-loop-i
+decreases-loop-i l = l.columns - l.i
