@@ -1,5 +1,6 @@
 // Two batches of equal size in one of twice that: the first's cycles before the second's (document 02, request 8).
 #![tactic(auto)]
+
 ghost use Rattle.std.specs.Prelude.{◌≡◌, ◌+◌, ◌-◌, ◌*◌, ◌<◌, ◌≤◌, length};
 ghost use Rattle.base.specs.Tests.{first_from};
 ghost use Rattle.base.specs.Written.{Written};

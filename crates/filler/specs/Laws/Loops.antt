@@ -63,7 +63,7 @@ xor_is = of_two _ _ refl
 pub lanes-are : (x : ℕ) {f g : Flags} {eqa pa eqb pb ca ch ch2 gates : ℕ} → f ≡ g → eqa ≡ hot x → pa ≡ pair x → eqb ≡ hot (next x)
     → pb ≡ pair (next x)
     → ca ≡ digit f.byte * eqa → ch ≡ digit f.half * eqa → ch2 ≡ digit f.half * eqb → gates ≡ pack (flags (gate_bits f))
-    → eqa + 256 * (pa + 256 * ((+ == 256) * (pb + 256 * (ca + 256 * (ch + 256 * (ch2 + 256 * gates)))))) ≡ lane_word x g
+    → eqa + 256 * (pa + 256 * (eqb + 256 * (pb + 256 * (ca + 256 * (ch + 256 * (ch2 + 256 * gates)))))) ≡ lane_word x g
 unfolding lane_word
 lanes-are x ef ea ep eb eq ec eh ei eg = cc
 

@@ -7,6 +7,9 @@ use Rattle.base.specs.Laws.First.{first_stops, first_goes, first_ends}
 use Rattle.filler.specs.Met.{numbered, named, first_false}
 use Rattle.filler.proofs.conditions.first_false.Given as goal
 
+abbrev pub fails : List Bool → ℕ → Bool
+fails met k = not (numbered met k)
+
 abbrev pub invariant-loop-k : goal.invariant-loop-k
 invariant-loop-k l = (1 ≤ l.k) × ((l.k ≤ 11) × (first_from (fails l.met) l.k (11 - l.k) ≡ first_from (fails l.met) 1 10))
 

@@ -20,5 +20,5 @@ returns c =
     c.read_word.ensures c.step_words-w.ensures in
     let flags = flags-are a.cpi a.cycle batch c.read_given-g.ensures c.flags_in-f.ensures in
     c.first_false.ensures
-    ∙ ap first_false (c.conditions.ensures ∙ ap₂ (λ (c : StepWords) (c : StepFlags). conditions c c c.element.result) words flags
+    ∙ ap first_false (c.conditions.ensures ∙ ap₂ (λ (w : StepWords) (f : StepFlags). conditions w f c.element.result) words flags
     ∙ ap (conditions (words_of b) (flags_of b)) c.element.ensures)

@@ -11,4 +11,4 @@ unfolding carry_word
 returns c =
     let a = c.args in
     ap (bit_xor (bit_xor a.a a.b))
-    (wrap-twice a.a a.b a.s c.wrapping_add_u64.ensures c.wrapping_add_u64-sum.ensures)
+    (wrap-twice a.a a.b a.s c.wrapping_add_u64.ensures.value c.wrapping_add_u64-sum.ensures.value)

@@ -7,4 +7,4 @@ use Rattle.filler.proofs.derive.run_word.Goals as goal
 
 pub returns : goal.returns
 unfolding run_word
-returns c = ap (λ (s : ℕ). bit_and s (2 ^ 64 - 1 - c.args.x)) c.wrapping_add_u64.ensures
+returns c = ap (λ (s : ℕ). bit_and s (2 ^ 64 - 1 - c.args.x)) c.wrapping_add_u64.ensures.value

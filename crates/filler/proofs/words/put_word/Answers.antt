@@ -16,7 +16,7 @@ loop-i-preserved c =
     let p = c.put_bit in (
       omega arith,
       half-turn a.w l.i l.invariant.1,
-      p.auto.0 ∙ l.invariant.2,
+      p.auto.batch ∙ l.invariant.2,
       p.ensures ∙ put-turn a.w l.i l.invariant.1 a.cpi a.cycle a.column a.batch.now l.invariant.3,
     )
 

@@ -1,0 +1,16 @@
+-- `merge::write_columns` meets its contract: the columns passed are written.
+-- Assumes nothing.
+use mathlib.Core.Path.{◌≡◌, ap, ◌∙◌}
+use Prim.Native.Nat.{ℕ, ◌+◌, ◌*◌, ◌-◌, ◌≤◌}
+use native.Mathlib.Omega.{arith}
+use Rattle.base.specs.Written.{Written}
+use Rattle.base.specs.Laws.Written.{written_none, written_then, written-to}
+use Rattle.layout.specs.Laws.Mapping.{column_fits}
+use Rattle.merge.specs.Merged.{merged_word}
+use Rattle.merge.proofs.write_columns.Given as goal
+
+abbrev pub invariant-loop-column : goal.invariant-loop-column
+invariant-loop-column l = (l.column ≤ 2048) × Written (merged_word l.cpi l.first l.second) 0 (4 * (l.column * l.cpi)) l.initial.batch l.batch
+
+abbrev pub decreases-loop-column : goal.decreases-loop-column
+decreases-loop-column l = 2048 - l.column
