@@ -1,5 +1,6 @@
 // Batches judged from packed words: the check with no listing read where a batch is accepted, and the plain walk where it is not.
 #![tactic(auto)]
+
 mod cycle;
 mod short;
 

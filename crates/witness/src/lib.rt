@@ -1,5 +1,6 @@
 // Makers and readers of rows: what the prover hands to the check.
 #![tactic(auto)]
+
 pub mod assembly;
 pub mod branch;
 pub mod records;

@@ -1,7 +1,7 @@
 -- `merge::ask` meets its contract: the questions on the sizes, and then the one on the public columns.
 -- Assumes nothing.
 use mathlib.Core.Path.{◌≡◌, sym, ap, subst, ◌∙◌}
-use Prim.Native.Nat.{ℕ, ◌*◌, ◌≤◌, ◌<◌}
+use Rattle.std.proofs.Common.{ℕ, List, ◌-◌, ◌*◌, ◌≤◌, ◌<◌}
 use native.Mathlib.Omega.{arith}
 use borrow.Author.Rules.{rules}
 use borrow.Author.Tests.{le-leb, lt-leb}
@@ -14,18 +14,6 @@ use Rattle.merge.specs.Calls.{differs, first_differing, merge_asked}
 use Rattle.merge.specs.Laws.Answers.{sized}
 use Rattle.merge.proofs.ask.Goals as goal
 
--- the search finds the column that the definition names
-found : (c : tie.After-first-differing) → let a = c.before.before.before.before.before.before.args in
-    c.first-differing.result ≡ first_differing a.first-cpi a.first.now a.second.now
-found c =
-    let a = c.before.before.before.before.before.before.args in
-    c.first-differing.ensures
-    ∙ ap (λ (n : ℕ). first_from (differs a.first.now a.second.now) (2048 * a.first-cpi) n) (omega arith)
-
-pub ask_sizes-requires : goal.ask_sizes-requires
-unfolding merge_asked
-ask_sizes-requires c = search rules
-
 pub overflow_mul-end : goal.overflow_mul-end
 overflow_mul-end c = omega (arith, (sized _ _ _ _ _ (sym c.ask_sizes.ensures ∙ c.in-Yes.is)).few)
 
@@ -36,10 +24,15 @@ pub first_differing-place-requires : goal.first_differing-place-requires
 first_differing-place-requires c =
     let s = sized _ _ _ _ _ (sym c.ask_sizes.ensures ∙ c.in-Yes.is) in (omega arith, (omega arith, omega arith))
 
+-- the search finds the column that the definition names
+found : (cpi : ℕ) (first second : List ℕ) (n : ℕ) → n ≡ first_from (differs first second) (2048 * cpi) (4096 * cpi - 2048 * cpi)
+    → n ≡ first_differing cpi first second
+found cpi first second n e = e ∙ ap (λ (k : ℕ). first_from (differs first second) (2048 * cpi) k) (omega arith)
+
 pub returns-then-place-end : goal.returns-then-place-end
 unfolding merge_asked
 returns-then-place-end c =
-    let e = found c in
+    let e = found c.args.first_cpi c.args.first.now c.args.second.now _ c.first_differing-place.ensures in
     ap (λ (p : ℕ). No (no 20 p)) e ∙ refused _ _ _ (lt-leb _ _ (subst (λ (n : ℕ). n < 4096 * c.args.first_cpi) e c.if-place-end.true))
     ∙ if_yes_lem No _ (sym c.ask_sizes.ensures ∙ c.in-Yes.is)
 
@@ -50,5 +43,5 @@ returns-in-No c = search asking
 pub returns-else-place-end : goal.returns-else-place-end
 unfolding merge_asked
 returns-else-place-end c =
-    passed _ _ _ (le-leb _ _ (subst (λ (n : ℕ). 4096 * c.args.first_cpi ≤ n) (found c) c.if-place-end.false))
+    passed _ _ _ (le-leb _ _ (subst (λ (n : ℕ). 4096 * c.args.first_cpi ≤ n) (found c.args.first_cpi c.args.first.now c.args.second.now _ c.first_differing-place.ensures) c.if-place-end.false))
     ∙ if_yes_lem No _ (sym c.ask_sizes.ensures ∙ c.in-Yes.is)

@@ -1,0 +1,12 @@
+-- `judge::all_rows` meets its contract: both counts are those of every row.
+-- Assumes nothing.
+use mathlib.Core.Path.{ap₂}
+use Prim.Native.Nat.{ℕ}
+use Rattle.verdict.specs.declared.Verdict.TheVariants.{Accepted}
+use Rattle.verdict.specs.declared.CheckAnswer.TheVariants.{Judged}
+use Rattle.verdict.specs.Counts.{counts}
+use borrow.Author.Rules.{rules}
+use Rattle.judge.proofs.all_rows.Goals as goal
+
+pub returns : goal.returns
+returns c = ap₂ (λ (b f : ℕ). Judged (Accepted (counts b f))) c.rows_in.ensures c.rows_in-2.ensures

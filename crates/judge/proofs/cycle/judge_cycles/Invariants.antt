@@ -1,0 +1,17 @@
+-- `judge::cycle::judge_cycles` meets its contract: what is left to judge from here on is what was to judge at all.
+-- Assumes nothing.
+use mathlib.Core.Path.{◌≡◌, sym, ◌∙◌}
+use Prim.Native.Nat.{◌-◌, ◌≤◌}
+use native.Mathlib.Nat.{sub-zero}
+use native.Mathlib.Omega.{arith}
+use borrow.Author.Rules.{rules}
+use borrow.Author.Tests.{not-true, not-false}
+use Rattle.judge.specs.Words.{all_judged}
+use Rattle.judge.specs.Laws.WordsWalk.{judged-stops, judged-goes, judged-ends}
+use Rattle.judge.proofs.cycle.judge_cycles.Given as goal
+
+abbrev pub invariant-loop-cycle : goal.invariant-loop-cycle
+invariant-loop-cycle l = (l.cycle ≤ l.cpi) × (all_judged l.which l.words l.output (l.cpi - l.cycle) l.cycle ≡ all_judged l.which l.words l.output l.cpi 0)
+
+abbrev pub decreases-loop-cycle : goal.decreases-loop-cycle
+decreases-loop-cycle l = l.cpi - l.cycle
