@@ -7,12 +7,12 @@ use borrow.Author.Rules.{rules}
 use Rattle.judge.proofs.check_row.Goals as goal
 
 pub accept-requires : goal.accept-requires
-accept-requires c = short-few _ _ _ (c.Short-row.ensures.0 c.if-short_row.true).yes
+accept-requires c = short-few _ _ _ (c.short_row.ensures.0 c.if-short_row.true).yes
 
 pub returns-then-short_row : goal.returns-then-short_row
 returns-then-short_row c =
     c.accept.ensures
-    ∙ row-short _ _ _ _ _ (λ j. omega (arith, c.shared_slice_known-2-1.given j)) (c.Short-row.ensures.0 c.if-short_row.true)
+    ∙ row-short _ _ _ _ _ (λ j. omega (arith, c.shared_slice_known-2-1.given j)) (c.short_row.ensures.0 c.if-short_row.true)
 
 pub accept-requires-then-short_row-2 : goal.accept-requires-then-short_row-2
 accept-requires-then-short_row-2 c = short-few _ _ _ (c.short_row-2.ensures.0 c.if-short_row-2.true).yes

@@ -58,6 +58,8 @@ from-word : (kss : List (List Block)) (ws : List ℕ) (o : ℕ) → in_groups o 
     → (j i : ℕ) → i < 64 → column_bit (joined kss) (o + 64 * j + i) ≡ bit_at (slice_index ws j) i
 unfolding joined column_bit
 from-word [] [] o t h j i l = sym (no-bit i)
+from-word [] (w ∷ ws) o t h j i l = elim h [ ]
+from-word (ks ∷ kss) [] o t h j i l = elim h [ ]
 from-word (ks ∷ kss) (w ∷ ws) o t h zero i l =
     ap (column_bit (ks ++ joined kss)) (omega arith)
     ∙ joined-within ks (joined kss) (o + i) (before-groups kss (o + 64) (o + i) (others-in o ks kss t) (omega arith)) ∙ sym (h.0 i l)

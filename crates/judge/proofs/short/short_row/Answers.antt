@@ -17,7 +17,7 @@ pub returns-then-not-is_known : goal.returns-then-not-is_known
 returns-then-not-is_known c =
     (
   λ e. absurd (false≢true e),
-  λ h. absurd (false≢true (sym (c.if-not-is_known.true) ∙ c.is_Known.ensures.1 h.known)),
+  λ h. absurd (false≢true (sym (c.if-not-is_known.true) ∙ c.is_known.ensures.1 h.known)),
 )
 
 pub returns : goal.returns
@@ -26,7 +26,7 @@ returns c =
       λ e.
           record {
             scratch = sym c.scratch_fits.ensures ∙ c.if-not-scratch_fits.false;
-            known = c.is_Known.ensures.0 (c.if-not-is_known.false);
+            known = c.is_known.ensures.0 (c.if-not-is_known.false);
             yes = sym c.short_yes.ensures ∙ e;
           },
       λ h. c.short_yes.ensures ∙ h.yes,

@@ -29,12 +29,12 @@ returns-in-Yes c =
     let a = c.args in
     let fit : Words a.cycle =
     record {
-      rs1 = omega (arith, c.well-formed);
-      rs2 = omega (arith, c.well-formed);
-      load = omega (arith, c.well-formed);
-      first = omega (arith, c.well-formed);
-      second = omega (arith, c.well-formed);
-      out = omega (arith, c.well-formed);
+      rs1 = omega (arith, c.well_formed);
+      rs2 = omega (arith, c.well_formed);
+      load = omega (arith, c.well_formed);
+      first = omega (arith, c.well_formed);
+      second = omega (arith, c.well_formed);
+      out = omega (arith, c.well_formed);
     } in
     let yes = sym c.ask_public-asked.ensures ∙ c.in-Yes.is in
     ap (λ (b : List ℕ). record { answer = Yes; batch = b })
