@@ -1,5 +1,6 @@
 // The C boundary of Cellprism: the check of one row, handed over as bytes and answered by one number.
 #![tactic(auto)]
+
 mod bytes;
 mod short;
 

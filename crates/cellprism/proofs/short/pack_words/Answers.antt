@@ -1,0 +1,21 @@
+-- `cellprism::short::pack_words` meets its contract: the words passed stand in their places.
+-- Assumes nothing.
+use Prim.Native.Nat.{◌-◌, ◌≤◌}
+use native.Mathlib.Omega.{arith}
+use Rattle.packed.specs.One.{InRow}
+use Rattle.packed.specs.Laws.One.{no_row, next_row, row_ends}
+use Rattle.cellprism.specs.Bytes.{row_of}
+use borrow.Author.Rules.{rules}
+use Rattle.cellprism.proofs.short.pack_words.Goals as goal
+
+pub loop-k-init : goal.loop-k-init
+loop-k-init c = (search rules, (search rules, no_row _ _ _))
+
+pub loop-k-preserved : goal.loop-k-preserved
+loop-k-preserved c = (omega arith, (omega arith, search next_row))
+
+pub shape_of-out : goal.shape_of-out
+shape_of-out c = c.loop-k.invariant.1.1.lengths
+
+pub returns : goal.returns
+returns c = search row_ends

@@ -1,0 +1,18 @@
+-- `cellprism::short::seen_at` meets its contract: the or of what was passed tells of each of them.
+-- Assumes nothing.
+use Prim.Native.Nat.{◌-◌, ◌≤◌}
+use native.Mathlib.Omega.{arith}
+use Rattle.packed.specs.Laws.Seen.{seen_none}
+use Rattle.packed.specs.Laws.One.{SeenFrom, seen-turn, seen_all}
+use Rattle.cellprism.specs.Bytes.{row_of}
+use borrow.Author.Rules.{rules}
+use Rattle.cellprism.proofs.short.seen_at.Goals as goal
+
+pub loop-j-init : goal.loop-j-init
+loop-j-init c = (search rules, seen_none _ _)
+
+pub loop-j-preserved : goal.loop-j-preserved
+loop-j-preserved c = (omega arith, search seen-turn)
+
+pub returns : goal.returns
+returns c = search seen_all
