@@ -1,6 +1,7 @@
 // What the comparison with the original calls from Rust: the product's own functions behind C names, on numbers alone. Not part of
 // the product's C boundary.
 #![tactic(auto)]
+
 pub mod check;
 pub mod fills;
 pub mod makers;

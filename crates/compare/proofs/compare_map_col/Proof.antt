@@ -1,7 +1,0 @@
--- The number of what the call gives.
-use borrow.Author.Rules.{rules}
-use Rattle.compare.proofs.compare_map_col.Statement.{statement}
-use Rattle.compare.proofs.compare_map_col.Tie as tie
-
-pub compare_map_col_spec : {M : Type 1} → statement M
-compare_map_col_spec = tie.close (tie.spec (λ c κs. search rules) (λ c κs. search rules) (λ c. cc))
