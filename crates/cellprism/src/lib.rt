@@ -80,8 +80,7 @@ pub fn read_bytes(bytes: &[u8], words: &mut [u64]) -> Asked
 }
 
 // What the prover's host calls.
-#[unsafe(no_mangle)]
-pub extern "C" fn cellprism_check_row(bytes: &[u8]) -> u32
+pub fn cellprism_check_row(bytes: &[u8]) -> u32
     ensures { result ≡ answer_word (row_checked bytes.now) }
 {
     answer_word(check_bytes(bytes))

@@ -72,8 +72,7 @@ fn check_number(answer: CheckAnswer) -> u64
 }
 
 // Here and in the next, way 0 is the product's check, any other number the plain walk.
-#[unsafe(no_mangle)]
-pub extern "C" fn compare_check_row(
+pub fn compare_check_row(
     way: u32,
     cpi: usize,
     listing: &[u32],
@@ -95,8 +94,7 @@ pub fn chosen_listing(n: u32) -> Known
     if n == 0 { Known::House } else { Known::Strict }
 }
 
-#[unsafe(no_mangle)]
-pub extern "C" fn compare_check_known(which: u32, way: u32, cpi: usize, batch: &[u64]) -> u64
+pub fn compare_check_known(which: u32, way: u32, cpi: usize, batch: &[u64]) -> u64
     ensures { result ≡ check_number (known_checked (chosen_listing which) cpi batch.now) }
 {
     if way == 0 {
@@ -106,8 +104,7 @@ pub extern "C" fn compare_check_known(which: u32, way: u32, cpi: usize, batch: &
 }
 
 // A batch is filled and then checked, in one call.
-#[unsafe(no_mangle)]
-pub extern "C" fn compare_fill_and_check(which: u32, cpi: usize, batch: &mut [u64]) -> u64
+pub fn compare_fill_and_check(which: u32, cpi: usize, batch: &mut [u64]) -> u64
     ensures { reply result batch.new ≡ fill_check_reply (fill_checked (chosen_listing which) cpi batch.old) }
 {
     check_number(judge::fill_and_check(chosen_listing(which), cpi, batch))
@@ -147,8 +144,7 @@ fn put_sums(answer: ApplyAnswer, out: &mut [u64]) -> u64
     }
 }
 
-#[unsafe(no_mangle)]
-pub extern "C" fn compare_apply(
+pub fn compare_apply(
     cpi: usize,
     listing: &[u32],
     batch: &[u64],
@@ -185,8 +181,7 @@ fn bit_number(answer: BitAnswer) -> u64
     }
 }
 
-#[unsafe(no_mangle)]
-pub extern "C" fn compare_bit_test(cpi: usize, batch: &[u64]) -> u64
+pub fn compare_bit_test(cpi: usize, batch: &[u64]) -> u64
     ensures { result ≡ bit_number (bit_tested cpi batch.now) }
 {
     bit_number(verdict::bits::bit_test(cpi, batch))

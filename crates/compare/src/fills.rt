@@ -17,8 +17,7 @@ pub fn asked_number(answer: Asked) -> u64
     }
 }
 
-#[unsafe(no_mangle)]
-pub extern "C" fn compare_fill(cpi: usize, batch: &mut [u64]) -> u64
+pub fn compare_fill(cpi: usize, batch: &mut [u64]) -> u64
     ensures { reply result batch.new ≡ called_reply (called cpi batch.old) }
 {
     asked_number(filler::fill::fill(cpi, batch))
@@ -34,8 +33,7 @@ fn step_number(answer: StepAnswer) -> u64
     }
 }
 
-#[unsafe(no_mangle)]
-pub extern "C" fn compare_first_unmet(cpi: usize, batch: &[u64], cycle: usize) -> u64
+pub fn compare_first_unmet(cpi: usize, batch: &[u64], cycle: usize) -> u64
     ensures { result ≡ step_number (step_answer cpi batch.now cycle) }
 {
     step_number(filler::conditions::first_unmet(cpi, batch, cycle))

@@ -44,8 +44,7 @@ fn word_of(e: Gf128, word: u32) -> u64
     one_of(word, e.low(), e.high())
 }
 
-#[unsafe(no_mangle)]
-pub extern "C" fn compare_add(alo: u64, ahi: u64, blo: u64, bhi: u64, word: u32) -> u64
+pub fn compare_add(alo: u64, ahi: u64, blo: u64, bhi: u64, word: u32) -> u64
     ensures { result ≡ word_of word (added (of_words alo ahi) (of_words blo bhi)) }
 {
     word_of(
@@ -54,8 +53,7 @@ pub extern "C" fn compare_add(alo: u64, ahi: u64, blo: u64, bhi: u64, word: u32)
     )
 }
 
-#[unsafe(no_mangle)]
-pub extern "C" fn compare_mul(alo: u64, ahi: u64, blo: u64, bhi: u64, word: u32) -> u64
+pub fn compare_mul(alo: u64, ahi: u64, blo: u64, bhi: u64, word: u32) -> u64
     ensures { result ≡ word_of word (product (of_words alo ahi) (of_words blo bhi)) }
 {
     word_of(
@@ -64,15 +62,13 @@ pub extern "C" fn compare_mul(alo: u64, ahi: u64, blo: u64, bhi: u64, word: u32)
     )
 }
 
-#[unsafe(no_mangle)]
-pub extern "C" fn compare_shl(lo: u64, hi: u64, k: u32, word: u32) -> u64
+pub fn compare_shl(lo: u64, hi: u64, k: u32, word: u32) -> u64
     ensures { result ≡ word_of word (shifted (of_words lo hi) k) }
 {
     word_of(Gf128::of_words(lo, hi).shl(k), word)
 }
 
-#[unsafe(no_mangle)]
-pub extern "C" fn compare_times_power(lo: u64, hi: u64, k: u32, word: u32) -> u64
+pub fn compare_times_power(lo: u64, hi: u64, k: u32, word: u32) -> u64
     ensures { result ≡ word_of word (product (of_words lo hi) (power k)) }
 {
     word_of(Gf128::of_words(lo, hi).times_power(k), word)
@@ -90,8 +86,7 @@ fn geometry_part(g: InstanceGeometry, part: u32) -> u64
     }
 }
 
-#[unsafe(no_mangle)]
-pub extern "C" fn compare_geometry(cpi: usize, part: u32) -> u64
+pub fn compare_geometry(cpi: usize, part: u32) -> u64
     ensures { result ≡ geometry_number part (geometry_of cpi) }
 {
     let answer = layout::geometry(cpi);
@@ -101,16 +96,14 @@ pub extern "C" fn compare_geometry(cpi: usize, part: u32) -> u64
     }
 }
 
-#[unsafe(no_mangle)]
-pub extern "C" fn compare_exponent(cpi: usize) -> u32
+pub fn compare_exponent(cpi: usize) -> u32
     ensures { result ≡ exponent_of cpi }
 {
     layout::exponent(cpi)
 }
 
 // 1 where scratch of so many words fits, else 0.
-#[unsafe(no_mangle)]
-pub extern "C" fn compare_scratch_fits(words: usize) -> u32
+pub fn compare_scratch_fits(words: usize) -> u32
     ensures { result ≡ digit (scratch_fits words) }
 {
     if layout::scratch_fits(words) { 1 } else { 0 }
@@ -125,22 +118,19 @@ fn column_number(answer: ColumnAnswer) -> u64
     }
 }
 
-#[unsafe(no_mangle)]
-pub extern "C" fn compare_map_col(cpi: usize, column: usize, cycle: usize) -> u64
+pub fn compare_map_col(cpi: usize, column: usize, cycle: usize) -> u64
     ensures { result ≡ column_number (mapped 2048 cpi column cycle) }
 {
     column_number(layout::map_col(cpi, column, cycle))
 }
 
-#[unsafe(no_mangle)]
-pub extern "C" fn compare_map_z_col(cpi: usize, column: usize, cycle: usize) -> u64
+pub fn compare_map_z_col(cpi: usize, column: usize, cycle: usize) -> u64
     ensures { result ≡ column_number (mapped 4096 cpi column cycle) }
 {
     column_number(layout::map_z_col(cpi, column, cycle))
 }
 
-#[unsafe(no_mangle)]
-pub extern "C" fn compare_way_back(cpi: usize, column: usize, part: u32) -> u64
+pub fn compare_way_back(cpi: usize, column: usize, part: u32) -> u64
     ensures { result ≡ cycle_column_number part (unmapped cpi column) }
 {
     let answer = layout::unmap_col(cpi, column);
@@ -150,13 +140,7 @@ pub extern "C" fn compare_way_back(cpi: usize, column: usize, part: u32) -> u64
     }
 }
 
-#[unsafe(no_mangle)]
-pub extern "C" fn compare_row_way_back(
-    cpi: usize,
-    relation: u32,
-    batch_row: usize,
-    part: u32,
-) -> u64
+pub fn compare_row_way_back(cpi: usize, relation: u32, batch_row: usize, part: u32) -> u64
     ensures { result ≡ cycle_row_number part (unmapped_row cpi (chosen_relation relation) batch_row) }
 {
     let answer = circuit::batch::unmap_row(cpi, chosen_relation(relation), batch_row);
@@ -173,8 +157,7 @@ fn word_or_zero(words: &[u32], i: usize) -> u32
     if i < words.len() { words[i] } else { 0 }
 }
 
-#[unsafe(no_mangle)]
-pub extern "C" fn compare_listing_word(which: u32, i: usize) -> u32
+pub fn compare_listing_word(which: u32, i: usize) -> u32
     ensures { result ≡ get_or (listing_of (chosen_listing which)) i 0 }
 {
     match chosen_listing(which) {
@@ -224,8 +207,7 @@ fn batch_number(w: BatchWord) -> u64
     }
 }
 
-#[unsafe(no_mangle)]
-pub extern "C" fn compare_batched(cpi: usize, cycle: usize, word: u32) -> u64
+pub fn compare_batched(cpi: usize, cycle: usize, word: u32) -> u64
     ensures { result ≡ batch_number (batched cpi cycle word) }
 {
     batch_number(circuit::batch::build_circuit_batched(cpi, cycle, word))

@@ -79,13 +79,7 @@ fn rom_row_of(words: &[u64]) -> RomRow
     }
 }
 
-#[unsafe(no_mangle)]
-pub extern "C" fn compare_witness_row(
-    cycle: &[u64],
-    rom: &[u64],
-    public: &[u64],
-    row: &mut [u64],
-) -> u64
+pub fn compare_witness_row(cycle: &[u64], rom: &[u64], public: &[u64], row: &mut [u64]) -> u64
     ensures { reply result row.new ≡ row_reply cycle.now rom.now public.now row.old }
 {
     if cycle.len() < 30 {
@@ -97,20 +91,13 @@ pub extern "C" fn compare_witness_row(
     asked_number(witness::row::witness_row(record_of(cycle), rom_row_of(rom), public, row))
 }
 
-#[unsafe(no_mangle)]
-pub extern "C" fn compare_assemble(
-    cpi: usize,
-    cycles: &[u64],
-    public: &[u64],
-    batch: &mut [u64],
-) -> u64
+pub fn compare_assemble(cpi: usize, cycles: &[u64], public: &[u64], batch: &mut [u64]) -> u64
     ensures { reply result batch.new ≡ called_reply (assembly_called cpi cycles.now public.now batch.old) }
 {
     asked_number(witness::assembly::assemble_instance_z(cpi, cycles, public, batch))
 }
 
-#[unsafe(no_mangle)]
-pub extern "C" fn compare_read_branch(opcode: u32, funct3: u32, rs1: u64, rs2: u64) -> u64
+pub fn compare_read_branch(opcode: u32, funct3: u32, rs1: u64, rs2: u64) -> u64
     ensures { result ≡ reading_number (reading opcode funct3 rs1 rs2) }
 {
     match witness::branch::read_branch(opcode, funct3, rs1, rs2) {

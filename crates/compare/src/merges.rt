@@ -5,8 +5,7 @@ ghost use Rattle.compare.specs.Replies.{reply, called_reply};
 
 use crate::fills::asked_number;
 
-#[unsafe(no_mangle)]
-pub extern "C" fn compare_merge(
+pub fn compare_merge(
     first_cpi: usize,
     first: &[u64],
     second_cpi: usize,

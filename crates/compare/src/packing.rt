@@ -16,8 +16,7 @@ fn packing_number(answer: Packing) -> u64
     }
 }
 
-#[unsafe(no_mangle)]
-pub extern "C" fn compare_pack_named(cpi: usize, batch: &[u64], out: &mut [u64]) -> u64
+pub fn compare_pack_named(cpi: usize, batch: &[u64], out: &mut [u64]) -> u64
     ensures { reply result out.new ≡ pack_reply (named_called cpi batch.now out.old) }
 {
     packing_number(packed::pack_named(cpi, batch, out))

@@ -8,8 +8,7 @@ use crate::check::{chosen_relation, refused_at};
 use crate::fills::asked_number;
 use page::BytesAnswer;
 
-#[unsafe(no_mangle)]
-pub extern "C" fn compare_page(
+pub fn compare_page(
     cpi: usize,
     listing: &[u32],
     batch: &[u64],
@@ -25,8 +24,7 @@ pub extern "C" fn compare_page(
     asked_number(page::lay_out(cpi, listing, batch, relation, listing_row, cycle, page))
 }
 
-#[unsafe(no_mangle)]
-pub extern "C" fn compare_page_bytes(listing: &[u32], relation: u32, listing_row: usize) -> u64
+pub fn compare_page_bytes(listing: &[u32], relation: u32, listing_row: usize) -> u64
     ensures { result ≡ bytes_number (bytes_for listing.now (chosen_relation relation) listing_row) }
 {
     match page::page_bytes(listing, chosen_relation(relation), listing_row) {

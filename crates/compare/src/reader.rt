@@ -83,8 +83,7 @@ fn write_rows(read: TwoRows, out: &mut [u64])
     out[7] = read.last as u64;
 }
 
-#[unsafe(no_mangle)]
-pub extern "C" fn compare_reader(
+pub fn compare_reader(
     listing: &[u32],
     relation: u32,
     row: usize,

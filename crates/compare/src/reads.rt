@@ -8,8 +8,7 @@ ghost use Rattle.compare.specs.Replies.{chosen_listing};
 use crate::check::chosen_listing;
 
 // A loop that joins all it reads has to read all of it.
-#[unsafe(no_mangle)]
-pub extern "C" fn compare_read(words: &[u64]) -> u64
+pub fn compare_read(words: &[u64]) -> u64
     ensures { result ≡ ored words.now }
 {
     let mut all: u64 = 0;
@@ -28,8 +27,7 @@ fn wide(x: u8) -> u64
 }
 
 // The bytes are joined as bytes, so that as many are read at a time as of words.
-#[unsafe(no_mangle)]
-pub extern "C" fn compare_read_bytes(bytes: &[u8]) -> u64
+pub fn compare_read_bytes(bytes: &[u8]) -> u64
     ensures { result ≡ ored bytes.now }
 {
     let mut all: u8 = 0;
@@ -41,16 +39,14 @@ pub extern "C" fn compare_read_bytes(bytes: &[u8]) -> u64
     wide(all)
 }
 
-#[unsafe(no_mangle)]
-pub extern "C" fn compare_clear(scratch: &mut [u64])
+pub fn compare_clear(scratch: &mut [u64])
     ensures { scratch.new ≡ replicate (length scratch.old) 0 }
 {
     verdict::clear(scratch)
 }
 
 // 1 where a listing is the one that is named, else 0.
-#[unsafe(no_mangle)]
-pub extern "C" fn compare_is_known(which: u32, listing: &[u32]) -> u64
+pub fn compare_is_known(which: u32, listing: &[u32]) -> u64
     ensures { (result < 2) × ((result ≡ 1) ↔ (listing.now ≡ listing_of (chosen_listing which))) }
 {
     if strict::is_known(chosen_listing(which), listing) {

@@ -38,21 +38,13 @@ fn seek(opened: u32, listing: &[u32], relation: Relation, row: usize) -> Found
     circuit::reader::read_row(listing, relation, row)
 }
 
-#[unsafe(no_mangle)]
-pub extern "C" fn compare_find_row(
-    opened: u32,
-    listing: &[u32],
-    relation: u32,
-    row: usize,
-    part: u32,
-) -> u64
+pub fn compare_find_row(opened: u32, listing: &[u32], relation: u32, row: usize, part: u32) -> u64
     ensures { result ≡ found_number part (sought opened listing.now (chosen_relation relation) row) }
 {
     found_number(seek(opened, listing, chosen_relation(relation), row), part)
 }
 
-#[unsafe(no_mangle)]
-pub extern "C" fn compare_row_part(listing: &[u32], relation: u32, row: usize, i: usize) -> u64
+pub fn compare_row_part(listing: &[u32], relation: u32, row: usize, i: usize) -> u64
     ensures { result ≡ entry_of i (part_of (found listing.now (chosen_relation relation) row) listing.now) }
 {
     word_at(
@@ -71,14 +63,7 @@ fn chosen_place(refused: u32, start: usize, end: usize) -> Found
     }
 }
 
-#[unsafe(no_mangle)]
-pub extern "C" fn compare_part_at(
-    listing: &[u32],
-    refused: u32,
-    start: usize,
-    end: usize,
-    i: usize,
-) -> u64
+pub fn compare_part_at(listing: &[u32], refused: u32, start: usize, end: usize, i: usize) -> u64
     ensures { result ≡ entry_of i (part_of (chosen_place refused start end) listing.now) }
 {
     word_at(

@@ -5,36 +5,31 @@ ghost use Rattle.compare.specs.Replies.{reply, called_reply};
 
 use crate::fills::asked_number;
 
-#[unsafe(no_mangle)]
-pub extern "C" fn compare_pack(cpi: usize, batch: &[u64], out: &mut [u64]) -> u64
+pub fn compare_pack(cpi: usize, batch: &[u64], out: &mut [u64]) -> u64
     ensures { reply result out.new ≡ called_reply (pack_called cpi batch.now out.old) }
 {
     asked_number(packed::storage::pack(cpi, batch, out))
 }
 
-#[unsafe(no_mangle)]
-pub extern "C" fn compare_pack_cycles(cpi: usize, batch: &[u64], out: &mut [u64]) -> u64
+pub fn compare_pack_cycles(cpi: usize, batch: &[u64], out: &mut [u64]) -> u64
     ensures { reply result out.new ≡ called_reply (pack_cycles_called cpi batch.now out.old) }
 {
     asked_number(packed::storage::pack_cycles(cpi, batch, out))
 }
 
-#[unsafe(no_mangle)]
-pub extern "C" fn compare_unpack(cpi: usize, words: &[u64], batch: &mut [u64]) -> u64
+pub fn compare_unpack(cpi: usize, words: &[u64], batch: &mut [u64]) -> u64
     ensures { reply result batch.new ≡ called_reply (unpack_called cpi words.now batch.old) }
 {
     asked_number(packed::storage::unpack(cpi, words, batch))
 }
 
-#[unsafe(no_mangle)]
-pub extern "C" fn compare_to_cycles(cpi: usize, words: &[u64], out: &mut [u64]) -> u64
+pub fn compare_to_cycles(cpi: usize, words: &[u64], out: &mut [u64]) -> u64
     ensures { reply result out.new ≡ called_reply (to_cycles_called cpi words.now out.old) }
 {
     asked_number(packed::storage::to_cycles(cpi, words, out))
 }
 
-#[unsafe(no_mangle)]
-pub extern "C" fn compare_to_batch(cpi: usize, words: &[u64], out: &mut [u64]) -> u64
+pub fn compare_to_batch(cpi: usize, words: &[u64], out: &mut [u64]) -> u64
     ensures { reply result out.new ≡ called_reply (to_batch_called cpi words.now out.old) }
 {
     asked_number(packed::storage::to_batch(cpi, words, out))

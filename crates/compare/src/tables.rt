@@ -15,24 +15,21 @@ fn entry_of(xs: &[usize], i: usize) -> u64
     if i < xs.len() { xs[i] as u64 } else { NONE }
 }
 
-#[unsafe(no_mangle)]
-pub extern "C" fn compare_layout(i: usize) -> u64
+pub fn compare_layout(i: usize) -> u64
     ensures { result ≡ entry_of i witness_layout }
 {
     let columns = witness_layout();
     entry_of(&columns, i)
 }
 
-#[unsafe(no_mangle)]
-pub extern "C" fn compare_width(i: usize) -> u64
+pub fn compare_width(i: usize) -> u64
     ensures { result ≡ entry_of i field_widths }
 {
     let widths = field_widths();
     entry_of(&widths, i)
 }
 
-#[unsafe(no_mangle)]
-pub extern "C" fn compare_default_cpi() -> u64
+pub fn compare_default_cpi() -> u64
     ensures { result ≡ DEFAULT-CPI }
 {
     layout::default_cpi() as u64
@@ -52,8 +49,7 @@ fn name_byte(i: usize, k: u32) -> u64
     names[at] as u64
 }
 
-#[unsafe(no_mangle)]
-pub extern "C" fn compare_segment(i: usize, part: u32) -> u64
+pub fn compare_segment(i: usize, part: u32) -> u64
     ensures { result ≡ segment_part i part }
 {
     match part {

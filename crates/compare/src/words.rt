@@ -24,8 +24,7 @@ fn word_number(w: Word) -> u64
     }
 }
 
-#[unsafe(no_mangle)]
-pub extern "C" fn compare_read_word(word: u32, part: u32) -> u64
+pub fn compare_read_word(word: u32, part: u32) -> u64
     ensures { result ≡ word_part part word }
 {
     match part {
