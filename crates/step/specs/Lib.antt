@@ -11,7 +11,7 @@
 --     Stricter          what the strict listing accepts the house listing accepts
 --     Fill              the filler as it is called: questions 1, 2, 11 and 12, and the filling
 --     Sheet             rows by the columns that are 1: what the bench sheet's table is written with
--- What follows from these, which the prover checks: Laws.
+-- What follows from these, which the prover checks, stands in proofs/Laws.
 pub mod Step
 pub mod Strict
 pub mod Branch
@@ -23,4 +23,3 @@ pub mod Demand3
 pub mod Stricter
 pub mod Fill
 pub mod Sheet
-pub mod Laws

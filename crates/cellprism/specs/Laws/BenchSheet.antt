@@ -23,9 +23,9 @@ use Rattle.step.specs.Derived.{derived}
 use Rattle.step.specs.Solve.{lacks}
 use Rattle.step.specs.Determining.{before_halt, after_halt, determining}
 use Rattle.step.specs.Sheet.{has, number}
-use Rattle.step.specs.Laws.Ones.{holding-one_row, fits, all_derived, all_hold, listed-derived}
-use Rattle.step.specs.Laws.FilledRow.{Gives, accepted, address-fails, sum-fails, output-fails}
-use Rattle.step.specs.Laws.Sheet.{with-ones, with-output, derived-ones}
+use Rattle.step.proofs.Laws.Ones.{holding-one_row, fits, all_derived, all_hold, listed-derived}
+use Rattle.step.proofs.Laws.FilledRow.{Gives, accepted, address-fails, sum-fails, output-fails}
+use Rattle.step.proofs.Laws.Sheet.{with-ones, with-output, derived-ones}
 use Rattle.filler.specs.Met.{conditions, byte_of}
 use Rattle.filler.specs.Laws.MetFirst.{all_true_lem}
 use Rattle.judge.specs.Laws.FillCheckExamples.{filled-and-judged}

@@ -13,7 +13,7 @@ use Rattle.layout.specs.Columns.{ONE-COL, T1, T2, CARRY-OFF, ALU, SUB, ZERO}
 use Rattle.circuit.specs.Circuit.{is, first_carry_row, adder_row, copy_rows, zero_rows}
 use Rattle.verdict.specs.OverBits.{sum_bits}
 use Rattle.step.specs.Solve.{lacks, Holds}
-use Rattle.step.specs.Laws.Sides.{sum_one, sum_is}
+use Rattle.step.proofs.Laws.Sides.{sum_one, sum_is}
 use Rattle.filler.specs.Derive.{carry_word}
 use Rattle.filler.specs.Laws.Derive.{ByWords}
 use Rattle.filler.specs.Laws.Holds.{product-holds, copy_holds, chain-holds}

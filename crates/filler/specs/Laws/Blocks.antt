@@ -17,7 +17,7 @@ use Rattle.field.specs.Gf.Bits.{as-bit}
 use Rattle.layout.specs.Batch.{batch_words}
 use Rattle.verdict.specs.Row.{element_at}
 use Rattle.step.specs.Filling.{put}
-use Rattle.step.specs.Laws.FillingElements.{put-length, put-here, put-elsewhere}
+use Rattle.step.proofs.Laws.FillingElements.{put-length, put-here, put-elsewhere}
 use Rattle.filler.specs.Blocks.{put_word, put_blocks, HoldsWord}
 
 abbrev pub ordered : ℕ → List Block → Bool

@@ -16,8 +16,8 @@ use Rattle.layout.specs.Columns.{ONE-COL, RS1, RS2, T1, T2, CARRY-OFF, ALU, IS-L
 use Rattle.circuit.specs.Circuit.{is_of, extend16_row, extend8_row, opcode_rows, funct3_rows, comparison_rows, mux_rows}
 use Rattle.step.specs.Step.{opcode, funct3}
 use Rattle.step.specs.Solve.{Holds}
-use Rattle.step.specs.Laws.Step.{funct3-lt}
-use Rattle.step.specs.Laws.Sides.{sum_one, sum-two, sum-not, sum-three, sum-is_of}
+use Rattle.step.proofs.Laws.Step.{funct3-lt}
+use Rattle.step.proofs.Laws.Sides.{sum_one, sum-two, sum-not, sum-three, sum-is_of}
 use Rattle.filler.specs.Lanes.{hot, pair}
 use Rattle.filler.specs.Derive.{run_word, compare_bits, compare_word, opcode_run, branch_word}
 use Rattle.filler.specs.Met.{flags_at}

@@ -21,10 +21,10 @@ use Rattle.step.specs.Step.{opcode, funct3, offset}
 use Rattle.step.specs.Derived.{derived, derived_in}
 use Rattle.step.specs.Determining.{filled_bits}
 use Rattle.step.specs.Filling.{NotDerived}
-use Rattle.step.specs.Laws.Derived.{derived-below, one-given}
-use Rattle.step.specs.Laws.Given.{all_given, given-at}
-use Rattle.step.specs.Laws.Determining.{filled-only}
-use Rattle.step.specs.Laws.FillingElements.{not-derived}
+use Rattle.step.proofs.Laws.Derived.{derived-below, one-given}
+use Rattle.step.proofs.Laws.Given.{all_given, given-at}
+use Rattle.step.proofs.Laws.Determining.{filled-only}
+use Rattle.step.proofs.Laws.FillingElements.{not-derived}
 use Rattle.filler.specs.declared.derive.GivenWords.{GivenWords}
 use Rattle.filler.specs.declared.derive.DerivedWords.{DerivedWords}
 use Rattle.filler.specs.Derive.{carry_word, run_word, lane_word, branch_word, taken_bit}

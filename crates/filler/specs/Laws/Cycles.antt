@@ -14,8 +14,8 @@ use Rattle.verdict.specs.Row.{element_at, cycle_of, bits_of}
 use Rattle.step.specs.Derived.{derived_in}
 use Rattle.step.specs.Determining.{filled_bits}
 use Rattle.step.specs.Filling.{filler_bits, filled}
-use Rattle.step.specs.Laws.FillingElements.{is-filling}
-use Rattle.step.specs.Laws.Batch.{one-is-set}
+use Rattle.step.proofs.Laws.FillingElements.{is-filling}
+use Rattle.step.proofs.Laws.Batch.{one-is-set}
 use Rattle.filler.specs.Words.{fill_cycle, fill_cycles}
 use Rattle.filler.specs.Laws.Cycle.{cycle-length, cycle-given, cycle-other, cycle-derived}
 use Rattle.field.specs.Gf as gf

@@ -13,7 +13,7 @@ use Rattle.circuit.specs.Rows.{Term}
 use Rattle.circuit.specs.Circuit.{col, one_term, row, copy_row, chain_start, chain_next}
 use Rattle.verdict.specs.OverBits.{sum_bits}
 use Rattle.step.specs.Solve.{lacks, Holds}
-use Rattle.step.specs.Laws.Sides.{sum_one, sum_more, sum-two}
+use Rattle.step.proofs.Laws.Sides.{sum_one, sum_more, sum-two}
 use Rattle.filler.specs.Derive.{run_word}
 use Rattle.filler.specs.Laws.Lanes.{low_agree, third_agrees}
 

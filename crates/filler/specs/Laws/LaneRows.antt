@@ -13,8 +13,8 @@ use Rattle.layout.specs.Columns.{ONE-COL, WE, IS-LOAD, LD-BYTE, LD-HALF, LD-WORD
 use Rattle.circuit.specs.Circuit.{product_row, is, offset_rows, lane_rows, conditional_rows}
 use Rattle.step.specs.Step.{offset}
 use Rattle.step.specs.Solve.{Holds}
-use Rattle.step.specs.Laws.Step.{offset-lt}
-use Rattle.step.specs.Laws.Sides.{sum_one, sum_is}
+use Rattle.step.proofs.Laws.Step.{offset-lt}
+use Rattle.step.proofs.Laws.Sides.{sum_one, sum_is}
 use Rattle.filler.specs.Lanes.{hot, pair, next}
 use Rattle.filler.specs.Derive.{gate_bits, lane_fields, lane_word}
 use Rattle.filler.specs.Met.{flags_at}

@@ -14,8 +14,8 @@ use Rattle.field.specs.Gf.{same}
 use Rattle.field.specs.Gf.Tests.{same_true, same_self}
 use Rattle.layout.specs.Columns.{RD, LOAD-VAL, T1, T2, ALU, SUB, WE, IS-LOAD, IS-STORE, IS-ARITH, IS-SHIFT, LD-BYTE, LD-HALF, LD-WORD}
 use Rattle.step.specs.Step.{opcode, offset, byte, Conditions, Condition}
-use Rattle.step.specs.Laws.Step.{offset-lt}
-use Rattle.step.specs.Laws.Conditions.{sum-bits}
+use Rattle.step.proofs.Laws.Step.{offset-lt}
+use Rattle.step.proofs.Laws.Conditions.{sum-bits}
 use Rattle.filler.specs.Met.{words_of, flags_of, ◌⇒◌, byte_of, conditions, numbered}
 
 -- ---- "where this, that", and what a test says

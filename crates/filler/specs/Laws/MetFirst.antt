@@ -21,7 +21,8 @@ use Rattle.verdict.specs.Row.{cycle_of, bits_of}
 use Rattle.step.specs.Step.{Condition, Step}
 use Rattle.step.specs.Strict.{widths, ConditionsOf}
 use Rattle.step.specs.Fill.{fill_asked}
-use Rattle.step.specs.Laws.Strict.{not-clause, width-clauses}
+use Rattle.step.proofs.Laws.Strict.{not-clause}
+use Rattle.step.proofs.Laws.Widths.{width-clauses}
 use Rattle.filler.specs.declared.conditions.StepAnswer.TheVariants.{Meets, Unmet, Refused}
 use Rattle.filler.specs.Met.{words_of, flags_of, conditions, conditions_of, all_true, named, first_false, first_unmet, if_inside, step_answer}
 use Rattle.filler.specs.Laws.MetEach as each

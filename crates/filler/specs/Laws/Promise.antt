@@ -18,9 +18,9 @@ use Rattle.verdict.specs.Row.{element_at, bits_of}
 use Rattle.step.specs.Derived.{derived, derived_in}
 use Rattle.step.specs.Determining.{filled_bits}
 use Rattle.step.specs.Filling.{filler_bits, filled}
-use Rattle.step.specs.Laws.Derived.{derived-below}
-use Rattle.step.specs.Laws.FillingElements.{filling-here, is-filling}
-use Rattle.step.specs.Laws.Batch.{one-is-set}
+use Rattle.step.proofs.Laws.Derived.{derived-below}
+use Rattle.step.proofs.Laws.FillingElements.{filling-here, is-filling}
+use Rattle.step.proofs.Laws.Batch.{one-is-set}
 use Rattle.filler.specs.declared.derive.GivenWords.{GivenWords}
 use Rattle.filler.specs.declared.derive.DerivedWords.{DerivedWords}
 use Rattle.filler.specs.Blocks.{HoldsWord}

@@ -9,7 +9,7 @@ use Rattle.layout.specs.Columns.{ONE-COL, WE, IS-LOAD, HALT, LD-HALF, LD-WORD, O
 use Rattle.circuit.specs.Circuit.{adder_row, copy_rows, neither_row, taken_row, write_gate_row, lane_rows, conditional_rows, funct3_rows}
 use Rattle.step.specs.Solve.{Holds}
 use Rattle.step.specs.Determining.{before_halt, after_halt, determining_families, determining}
-use Rattle.step.specs.Laws.Sides.{sum_one, sum-not, sum-six}
+use Rattle.step.proofs.Laws.Sides.{sum_one, sum-not, sum-six}
 use Rattle.filler.specs.Laws.Derive.{ByWords}
 use Rattle.filler.specs.Laws.Holds.{product-holds, copy_holds}
 use Rattle.filler.specs.Laws.AdderRows.{first-carry-holds, adder-holds, copies-hold, zeros-hold}

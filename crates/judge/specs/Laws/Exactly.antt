@@ -17,7 +17,7 @@ use Rattle.verdict.specs.Row.{bits_of}
 use Rattle.step.specs.Strict.{ConditionsOf}
 use Rattle.step.specs.Derived.{derived}
 use Rattle.step.specs.Determining.{filled_bits}
-use Rattle.step.specs.Laws.Derived.{derived-below}
+use Rattle.step.proofs.Laws.Derived.{derived-below}
 use Rattle.filler.specs.Words.{word_at, given_words, derived_words, blocks}
 use Rattle.filler.specs.Laws.Cycle.{blocks-are-derived, in-blocks-derived}
 use Rattle.filler.specs.Laws.Promise.{filled-bits}

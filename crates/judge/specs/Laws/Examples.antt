@@ -18,8 +18,8 @@ use Rattle.verdict.specs.Counts.{every_row_of}
 use Rattle.verdict.specs.Check.{judged}
 use Rattle.step.specs.Filling.{filled}
 use Rattle.step.specs.Sheet.{has}
-use Rattle.step.specs.Laws.Chosen.{premises-of}
-use Rattle.step.specs.Laws.Clauses.{idle, idle-meets}
+use Rattle.step.proofs.Laws.Chosen.{premises-of}
+use Rattle.step.proofs.Laws.Clauses.{idle, idle-meets}
 use Rattle.filler.specs.Derive.{carry_word, run_word, lane_word, compare_word, branch_word, taken_bit}
 use Rattle.filler.specs.Met.{conditions, byte_of}
 use Rattle.judge.specs.Judged.{judged_cycle, JudgedYes}

@@ -32,10 +32,10 @@ use Rattle.step.specs.Derived.{derived_in}
 use Rattle.step.specs.Filling.{SameElsewhere, filler_bits, filled}
 use Rattle.step.specs.Demand3.{Premises, accepts, fails, Demand3}
 use Rattle.step.specs.Fill.{faulty, fill_asked, called, Passed}
-use Rattle.step.specs.Laws.FillingElements.{filling-length}
-use Rattle.step.specs.Laws.Batch.{same-filled}
-use Rattle.step.specs.Laws.Proved.{demand3-known}
-use Rattle.step.specs.Laws.FillAnswers.{all-passed, premises}
+use Rattle.step.proofs.Laws.FillingElements.{filling-length}
+use Rattle.step.proofs.Laws.Batch.{same-filled}
+use Rattle.step.proofs.Laws.Proved.{demand3-known}
+use Rattle.step.proofs.Laws.FillAnswers.{all-passed, premises}
 use Rattle.judge.specs.FillCheck.{FillChecked, answer_after, fill_checked, EveryStep, Promised}
 
 -- ---- the filler asks nothing of a derived column

@@ -22,11 +22,11 @@ use Rattle.step.specs.Derived.{derived}
 use Rattle.step.specs.Filling.{filled}
 use Rattle.step.specs.Demand3.{fails}
 use Rattle.step.specs.Fill.{fill_asked, called}
-use Rattle.step.specs.Laws.FilledRow.{Gives}
-use Rattle.step.specs.Laws.FillAnswers.{passes, passed-all}
-use Rattle.step.specs.Laws.FillRefusals.{refuses}
-use Rattle.step.specs.Laws.Chosen.{batch_of, premises-of}
-use Rattle.step.specs.Laws.Clauses.{replaced, idle, shifts_in, shift-meets-not}
+use Rattle.step.proofs.Laws.FilledRow.{Gives}
+use Rattle.step.proofs.Laws.FillAnswers.{passes, passed-all}
+use Rattle.step.proofs.Laws.FillRefusals.{refuses}
+use Rattle.step.proofs.Laws.Chosen.{batch_of, premises-of}
+use Rattle.step.proofs.Laws.Clauses.{replaced, idle, shifts_in, shift-meets-not}
 use Rattle.judge.specs.FillCheck.{FillChecked, answer_after, fill_checked, Promised}
 use Rattle.judge.specs.Laws.Examples.{batch-examples}
 use Rattle.judge.specs.Laws.FillCheck.{is-judged, fill-promised}

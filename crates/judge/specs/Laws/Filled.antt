@@ -13,12 +13,12 @@ use Rattle.verdict.specs.Row.{element_at, cycle_of, bits_of}
 use Rattle.step.specs.Strict.{ConditionsOf}
 use Rattle.step.specs.Filling.{filler_bits, filled}
 use Rattle.step.specs.Demand3.{Premises}
-use Rattle.step.specs.Laws.Derived.{derived-below, one-given}
-use Rattle.step.specs.Laws.Determining.{filled-only}
-use Rattle.step.specs.Laws.Given.{SameGiven}
-use Rattle.step.specs.Laws.Strict.{same-conditions}
-use Rattle.step.specs.Laws.FillingElements.{filling-length, filling-elsewhere}
-use Rattle.step.specs.Laws.Batch.{one_bit, same-given, same-public, of-bits, filled-meets}
+use Rattle.step.proofs.Laws.Derived.{derived-below, one-given}
+use Rattle.step.proofs.Laws.Determining.{filled-only}
+use Rattle.step.proofs.Laws.Given.{SameGiven}
+use Rattle.step.proofs.Laws.Strict.{same-conditions}
+use Rattle.step.proofs.Laws.FillingElements.{filling-length, filling-elsewhere}
+use Rattle.step.proofs.Laws.Batch.{one_bit, same-given, same-public, of-bits, filled-meets}
 use Rattle.judge.specs.Judged.{JudgedYes}
 use Rattle.judge.specs.Judges.{OverBits}
 use Rattle.judge.specs.Laws.Exactly.{judged-exactly}

@@ -31,13 +31,13 @@ use Rattle.step.specs.Solve.{Holds}
 use Rattle.step.specs.Determining.{determining, filled_bits}
 use Rattle.step.specs.Filling.{SameElsewhere, filling, filler_bits, filled}
 use Rattle.step.specs.Demand3.{Premises}
-use Rattle.step.specs.Laws.Derived.{derived-below}
-use Rattle.step.specs.Laws.Determining.{filled-only}
-use Rattle.step.specs.Laws.FillingElements.{each_word, is-filling}
-use Rattle.step.specs.Laws.Cycle.{OfBits, all-bin}
-use Rattle.step.specs.Laws.Batch.{RowsHold, one_bit, of-bits, split, is-filled, rows-or-conditions}
-use Rattle.step.specs.Laws.Listings.{cycle-rows, listed}
-use Rattle.step.specs.Laws.Strict.{meaning}
+use Rattle.step.proofs.Laws.Derived.{derived-below}
+use Rattle.step.proofs.Laws.Determining.{filled-only}
+use Rattle.step.proofs.Laws.FillingElements.{each_word, is-filling}
+use Rattle.step.proofs.Laws.Cycle.{OfBits, all-bin}
+use Rattle.step.proofs.Laws.Batch.{RowsHold, one_bit, of-bits, split, is-filled, rows-or-conditions}
+use Rattle.step.proofs.Laws.Listings.{cycle-rows, listed}
+use Rattle.step.proofs.Laws.Strict.{meaning}
 use Rattle.judge.specs.Judged.{judged_cycle, JudgedYes}
 use Rattle.judge.specs.Judges.{OverBits}
 use Rattle.judge.specs.Laws.Exactly.{judged-exactly}

@@ -29,7 +29,7 @@ use Rattle.strict.specs.declared.Known.{Known}
 use Rattle.strict.specs.declared.Known.TheVariants.{House, Strict}
 use Rattle.strict.specs.Rows.{flag_rows, rows_with}
 use Rattle.strict.specs.Known.{listing_of, further_rows}
-use Rattle.strict.specs.Laws.Known.{rows_are}
+use Rattle.strict.proofs.Laws.Known.{rows_are}
 use Rattle.verdict.specs.declared.Verdict.TheVariants.{Accepted}
 use Rattle.verdict.specs.Row.{element_at, cycle_of, holds, bits_of}
 use Rattle.verdict.specs.Named.{named_by, named as named_in}
@@ -39,7 +39,7 @@ use Rattle.verdict.specs.Laws.Named.{holds-depends}
 use Rattle.verdict.specs.Laws.Run.{run-same}
 use Rattle.verdict.specs.Laws.Verdicts.{every-constraint}
 use Rattle.step.specs.Filling.{put_each}
-use Rattle.step.specs.Laws.FillingElements.{each-length, each-other, each-here}
+use Rattle.step.proofs.Laws.FillingElements.{each-length, each-other, each-here}
 use Rattle.packed.specs.Packed.{named_word}
 use Rattle.judge.specs.Judged.{judged_cycle, JudgedYes}
 use Rattle.judge.specs.Judges.{OverBits}

@@ -26,7 +26,7 @@ use Rattle.circuit.specs.Valid.{validated}
 use Rattle.strict.specs.declared.Known.{Known}
 use Rattle.strict.specs.declared.Known.TheVariants.{House, Strict}
 use Rattle.strict.specs.Known.{listing_of, rows_each}
-use Rattle.strict.specs.Laws.Known.{in_order}
+use Rattle.strict.proofs.Laws.Known.{in_order}
 use Rattle.verdict.specs.declared.Verdict.{Verdict}
 use Rattle.verdict.specs.declared.Verdict.TheVariants.{Accepted}
 use Rattle.verdict.specs.declared.CheckAnswer.TheVariants.{Judged, Refused as NoCheck}

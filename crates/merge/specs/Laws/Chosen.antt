@@ -15,8 +15,8 @@ use Rattle.layout.specs.Laws.Questions.{called-yes}
 use Rattle.layout.specs.Laws.Sizes.{allowed-range}
 use Rattle.verdict.specs.Row.{element_at, cycle_of}
 use Rattle.step.specs.Filling.{filled}
-use Rattle.step.specs.Laws.Chosen.{batch_of, batch-length, with_one, cycle-is}
-use Rattle.step.specs.Laws.FillingElements.{by-elements}
+use Rattle.step.proofs.Laws.Chosen.{batch_of, batch-length, with_one, cycle-is}
+use Rattle.step.proofs.Laws.FillingElements.{by-elements}
 use Rattle.merge.specs.Merged.{merged}
 use Rattle.merge.specs.Calls.{merge_asked, merge_called}
 use Rattle.merge.specs.Laws.Answers.{fitting-yes}

@@ -20,8 +20,8 @@ use Rattle.step.specs.Derived.{derived, derived_in}
 use Rattle.step.specs.Determining.{filled_bits}
 use Rattle.step.specs.Filling.{NotDerived, filler_bits, filled}
 use Rattle.step.specs.Fill.{faulty, first_faulty, fill_asked, called, Passed}
-use Rattle.step.specs.Laws.FillAnswers.{all-passed, passed-all}
-use Rattle.step.specs.Laws.FillingElements.{filling-length, filling-elsewhere, filling-here, is-filling}
+use Rattle.step.proofs.Laws.FillAnswers.{all-passed, passed-all}
+use Rattle.step.proofs.Laws.FillingElements.{filling-length, filling-elsewhere, filling-here, is-filling}
 use Rattle.merge.specs.Merged.{merged}
 use Rattle.merge.specs.Calls.{merge_asked, merge_called}
 use Rattle.merge.specs.Merging.{Filled}

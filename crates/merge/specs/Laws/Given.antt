@@ -19,9 +19,9 @@ use Rattle.verdict.specs.Counts.{counts}
 use Rattle.verdict.specs.Check.{judged}
 use Rattle.verdict.specs.Laws.LaterCycles.{alone, bin-judged, fld-judged}
 use Rattle.verdict.specs.Laws.Sheet.{zeros as all-zero, zeros-accepted, element-alone}
-use Rattle.step.specs.Laws.BitTest.{two-is-none, tells}
-use Rattle.step.specs.Laws.Chosen.{batch_of, batch-length}
-use Rattle.step.specs.Laws.Clauses.{replaced, replaced-length}
+use Rattle.step.proofs.Laws.BitTest.{two-is-none, tells}
+use Rattle.step.proofs.Laws.Chosen.{batch_of, batch-length}
+use Rattle.step.proofs.Laws.Clauses.{replaced, replaced-length}
 use Rattle.merge.specs.Merged.{cycle_word, lower_word, public_word, merged_word, merged}
 use Rattle.merge.specs.Joined.{joined, joined_bits}
 use Rattle.merge.specs.Laws.Bits.{bits as merged-bits}

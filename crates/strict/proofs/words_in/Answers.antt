@@ -7,7 +7,7 @@ use lib.ListN.{length}
 use Rattle.strict.specs.Known.{listing_of}
 use borrow.Author.Rules.{rules}
 use Rattle.circuit.specs.Laws.House as house
-use Rattle.strict.specs.Laws.Strict as strict
+use Rattle.strict.proofs.Laws.Strict as strict
 use Rattle.strict.proofs.words_in.Goals as goal
 
 pub returns-in-House : goal.returns-in-House

@@ -7,7 +7,7 @@ use borrow.Author.Rules.{rules}
 use Rattle.circuit.specs.Valid.{validated}
 use Rattle.strict.specs.Known.{listing_of}
 use Rattle.strict.specs.declared.Known.TheVariants.{House, Strict}
-use Rattle.strict.specs.Laws.Known.{in_order}
+use Rattle.strict.proofs.Laws.Known.{in_order}
 use Rattle.verdict.specs.Check.{judged}
 use Rattle.verdict.proofs.walk_known.Goals as goal
 

@@ -8,7 +8,7 @@ use Rattle.layout.specs.Questions.{if_yes}
 use Rattle.strict.specs.declared.Known.{Known}
 use Rattle.strict.specs.declared.Known.TheVariants.{House, Strict}
 use Rattle.strict.specs.Known.{listing_of}
-use Rattle.strict.specs.Laws.Known.{in_order}
+use Rattle.strict.proofs.Laws.Known.{in_order}
 use Rattle.verdict.specs.declared.Counts.{Counts}
 use Rattle.verdict.specs.declared.Verdict.TheVariants.{Accepted}
 use Rattle.verdict.specs.declared.CheckAnswer.TheVariants.{Judged, Refused}

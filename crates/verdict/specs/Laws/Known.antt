@@ -8,7 +8,7 @@ use Rattle.circuit.specs.Rows.{of_relation}
 use Rattle.circuit.specs.Parse.{rows_of}
 use Rattle.strict.specs.declared.Known.{Known}
 use Rattle.strict.specs.Known.{listing_of, rows_each}
-use Rattle.strict.specs.Laws.Known.{row_count}
+use Rattle.strict.proofs.Laws.Known.{row_count}
 use Rattle.verdict.specs.Counts.{counts, every_row, every_row_of}
 use Rattle.verdict.specs.Check.{in_cycles}
 use Rattle.verdict.specs.Laws.Counts.{of_one, tally, tally-cycles}

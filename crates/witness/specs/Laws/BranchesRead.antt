@@ -10,7 +10,7 @@ use Rattle.layout.specs.Batch.{allowed}
 use Rattle.layout.specs.Laws.Scratch.{some_scratch, some_fits}
 use Rattle.verdict.specs.Row.{cycle_of, bits_of}
 use Rattle.step.specs.Filling.{filled}
-use Rattle.step.specs.Laws.Branches.{comparing_batch, Decided, every-comparison}
+use Rattle.step.proofs.Laws.Branches.{comparing_batch, Decided, every-comparison}
 use Rattle.witness.specs.declared.branch.BranchReading.{BranchReading}
 use Rattle.witness.specs.declared.branch.BranchReading.TheVariants.{NoBranch, Taken, NotTaken, Reserved}
 use Rattle.witness.specs.Reading.{reading}

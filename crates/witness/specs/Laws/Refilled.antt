@@ -20,7 +20,7 @@ use Rattle.verdict.specs.Row.{element_at}
 use Rattle.step.specs.Derived.{derived_in}
 use Rattle.step.specs.Filling.{filled}
 use Rattle.step.specs.Fill.{faulty, called, Passed}
-use Rattle.step.specs.Laws.FillAnswers.{passed-all}
+use Rattle.step.proofs.Laws.FillAnswers.{passed-all}
 use Rattle.filler.specs.declared.derive.GivenWords.{GivenWords}
 use Rattle.filler.specs.Blocks.{HoldsWord}
 use Rattle.filler.specs.Words.{word_at, derived_words, blocks}

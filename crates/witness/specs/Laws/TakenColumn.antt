@@ -21,12 +21,12 @@ use Rattle.step.specs.Strict.{ConditionsOf}
 use Rattle.step.specs.Branch.{branch_holds}
 use Rattle.step.specs.Filling.{filled}
 use Rattle.step.specs.Demand3.{Premises, Compares, TakesBranch, FillerAccepted, Demand3}
-use Rattle.step.specs.Laws.Step.{funct3-lt}
-use Rattle.step.specs.Laws.Determined.{Determined}
-use Rattle.step.specs.Laws.Taken.{cycle_taken, taken-exactly, no-branch-untaken, two-untaken, three-untaken}
-use Rattle.step.specs.Laws.Batch.{filled-bit, filled_zero, filled-determined}
-use Rattle.step.specs.Laws.Proved.{demand3-known}
-use Rattle.step.specs.Laws.Branches.{Instruction}
+use Rattle.step.proofs.Laws.Step.{funct3-lt}
+use Rattle.step.proofs.Laws.Determined.{Determined}
+use Rattle.step.proofs.Laws.Taken.{cycle_taken, taken-exactly, no-branch-untaken, two-untaken, three-untaken}
+use Rattle.step.proofs.Laws.Batch.{filled-bit, filled_zero, filled-determined}
+use Rattle.step.proofs.Laws.Proved.{demand3-known}
+use Rattle.step.proofs.Laws.Branches.{Instruction}
 use Rattle.witness.specs.declared.branch.BranchReading.{BranchReading}
 use Rattle.witness.specs.declared.branch.BranchReading.TheVariants.{NoBranch, Taken, NotTaken, Reserved}
 use Rattle.witness.specs.Reading.{reading}

@@ -3,7 +3,7 @@
 use Rattle.std.proofs.Common.{sym, ◌∙◌, rules}
 use Rattle.layout.specs.Laws.Questions.{asking}
 use Rattle.layout.specs.Laws.Sizes.{allowed-range}
-use Rattle.step.specs.Laws.FillAnswers.{all-passed}
+use Rattle.step.proofs.Laws.FillAnswers.{all-passed}
 use Rattle.filler.specs.Met.{step_answer}
 use Rattle.filler.proofs.conditions.first_unmet.Goals as goal
 

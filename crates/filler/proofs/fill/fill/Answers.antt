@@ -6,7 +6,7 @@ use Rattle.layout.specs.declared.Asked.{Asked}
 use Rattle.step.specs.Filling.{filled}
 use Rattle.layout.specs.Questions.{after}
 use Rattle.step.specs.Fill.{called}
-use Rattle.step.specs.Laws.FillAnswers.{all-passed}
+use Rattle.step.proofs.Laws.FillAnswers.{all-passed}
 use Rattle.filler.proofs.fill.fill.Goals as goal
 
 pub fill_cycles-requires : goal.fill_cycles-requires
