@@ -10,7 +10,7 @@
 --     Gf.Sum            the laws of the sum
 --     Gf.Product        the laws of the product
 --     Gf.Carryless      the carry-less product
---     Gf.Remainder      the product is the one remainder of the carry-less product by the modulus
+--     Gf.Remainder      what the modulus is to a product (that the product is the one remainder: proofs/Laws/Remainder.antt)
 --     Gf.Sheet          the bench sheet's products, computed
 --     Gf.Multiply       the recursion behind both products
 --     Gf.Words          the one place that says what an element's two words are

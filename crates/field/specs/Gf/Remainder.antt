@@ -1,5 +1,5 @@
--- What the field's product is: the one polynomial of degree below 128 that differs from the carry-less product by a
--- multiple of the modulus.
+-- What the modulus is to a product: `times-t` takes it off once, and no multiple of it but 0 has a degree below 128. What follows, that the
+-- field's product is the one remainder, stands in proofs/Laws/Remainder.antt.
 use Rattle.std.specs.Prelude.{◌≡◌, ℕ, zero, suc, ◌+◌, ◌*◌, ◌/◌, ◌%◌, ◌^◌, ◌<◌}
 use Rattle.std.proofs.Common.{sym, ap, ap₂, ◌∙◌, subst, mod-lt, div-add-mod', lt_of_lt_of_le, pow-suc, arith, pow_pos, pow_mono, shr_lt, shr-shr, lit<}
 use Rattle.std.proofs.Math.Nat.{div-eq_of_lt}
@@ -15,10 +15,8 @@ use Rattle.field.specs.Gf.Carryless.{double-⊕, clmul-zero, clmul-horner, ⊕-c
 use Rattle.field.specs.Gf.Element.{value-lt, value-injective, value-product}
 use Rattle.field.specs.Gf.Laws.{proper-product}
 
--- ---- the product is one
-
 -- t times a polynomial of degree below 128: times-t takes the modulus off once, where t^128 comes up
-reduced : (a : ℕ) → a < 2 ^ 128 → a * 2 ≡ times-t a ⊕ scale (bit a 127) modulus
+pub reduced : (a : ℕ) → a < 2 ^ 128 → a * 2 ≡ times-t a ⊕ scale (bit a 127) modulus
 unfolding times-t modulus
 reduced a h = let c = bit a 127 in
     sym (div-add-mod' (a * 2) (2 ^ 128)) ∙ sym (⊕-disjoint (a * 2 / 2 ^ 128) 128 (mod-lt (a * 2) (pow_pos 128)))
@@ -30,32 +28,9 @@ reduced a h = let c = bit a 127 in
     top : a * 2 / 2 ^ 128 ≡ bit a 127
     top = sym (shr-shr (a * 2) 1 127) ∙ ap (λ (x : ℕ). x / 2 ^ 127) (shl-shr a 1) ∙ sym (shr_mod 1 127 h) ∙ sym (bit_is a 127)
 
-pub ⊗-is-product : (a b : ℕ) → a < 2 ^ 128 → IsProduct a b (a ⊗ b)
-⊗-is-product a b h = let r = go b in record { small = ⊗-lt b h; quotient = r.0; divides = r.1 }
-  where
-    go : (b : ℕ) → (q : ℕ) × (clmul a b ≡ a ⊗ b ⊕ clmul modulus q)
-    go =
-        bin_ind (λ (b : ℕ). (q : ℕ) × (clmul a b ≡ a ⊗ b ⊕ clmul modulus q)) (0, simp (clmul-zero, ⊗-zero, zero-⊕))
-        (λ b ih. let x = a ⊗ (b / 2) in let c = bit x 127 in let q = ih.0 in (
-          q * 2 + c,
-          clmul-horner a b
-              ∙ ap (λ (y : ℕ). scale (b % 2) a ⊕ y)
-              (ap (λ (y : ℕ). y * 2) ih.1 ∙ double-⊕ x (clmul modulus q)
-              ∙ ap (λ (y : ℕ). y ⊕ clmul modulus q * 2) (reduced x (⊗-lt (b / 2) h)) ∙ ⊕-assoc _ _ _)
-              ∙ sym (⊕-assoc _ _ _)
-              ∙ ap₂ ◌⊕◌ (sym (⊗-horner a b))
-              (sym (rw (clmul-horner modulus (q * 2 + c), digits_mod q (bit-lt x 127), digits_div q (bit-lt x 127)))),
-        ))
-
--- ---- there is no other
-
-lt-power : (n : ℕ) → n < 2 ^ n
-lt-power zero = lit< tt
-lt-power (suc n) = let h = lt-power n in rw pow-suc (omega arith)
-
 -- no multiple of the modulus but 0 has a degree below 128: the factor would equal its own part above t^128 of the product
 -- with 0x87, which is shorter
-multiple-zero : (m z : ℕ) → z < 2 ^ m → clmul modulus z < 2 ^ 128 → z ≡ 0
+pub multiple-zero : (m z : ℕ) → z < 2 ^ m → clmul modulus z < 2 ^ 128 → z ≡ 0
 unfolding modulus
 multiple-zero zero z h l = lt-one h
 multiple-zero (suc m) z h l =
@@ -67,24 +42,3 @@ multiple-zero (suc m) z h l =
     ∙ ap (λ (x : ℕ). x / 2 ^ 128) (sym parts) ∙ div-eq_of_lt l in
     let shorter = shr_lt m 128 (lt_of_lt_of_le (clmul-lt 8 (suc m) 0x87 z (lit< tt) h) (pow_mono (omega arith))) in
     multiple-zero m z (subst (λ (x : ℕ). x < 2 ^ m) (sym (⊕-equal z (c / 2 ^ 128) above)) shorter) l
-
-pub product-unique : (a b r : ℕ) → a < 2 ^ 128 → IsProduct a b r → r ≡ a ⊗ b
-product-unique a b r h p =
-    let t = ⊗-is-product a b h in let x = a ⊗ b in
-    let Q = clmul modulus p.quotient in let R = clmul modulus t.quotient in
-    let z = p.quotient ⊕ t.quotient in
-    let e : r ⊕ Q ≡ x ⊕ R = sym p.divides ∙ t.divides in
-    let d : r ⊕ x ≡ clmul modulus z =
-    ⊕-equal (r ⊕ x) (Q ⊕ R) (⊕-swap r x Q R ∙ ap (λ (n : ℕ). n ⊕ (x ⊕ R)) e ∙ ⊕-self (x ⊕ R))
-    ∙ sym (clmul-⊕ modulus p.quotient t.quotient) in
-    let none = multiple-zero z z (lt-power z) (subst (λ (n : ℕ). n < 2 ^ 128) d (⊕-lt 128 p.small t.small)) in
-    ⊕-equal r x (d ∙ ap (clmul modulus) none ∙ clmul-zero modulus)
-
--- ---- the same of elements
-
-pub product-is-remainder : (x y : Gf128) → Proper x → IsProduct (value x) (value y) (value (product x y))
-product-is-remainder x y p = subst (IsProduct (value x) (value y)) (sym (value-product y p)) (⊗-is-product (value x) (value y) (value-lt p))
-
-pub remainder-is-product : (x y r : Gf128) → Proper x → Proper r → IsProduct (value x) (value y) (value r) → r ≡ product x y
-remainder-is-product x y r p q h =
-    value-injective q (proper-product x y) (product-unique (value x) (value y) (value r) (value-lt p) h ∙ sym (value-product y p))

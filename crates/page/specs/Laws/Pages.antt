@@ -8,7 +8,7 @@ use Rattle.base.specs.Text.{blanks, left}
 use Rattle.layout.specs.Batch.{allowed}
 use Rattle.circuit.specs.declared.Side.TheVariants.{A, B, C}
 use Rattle.circuit.specs.Rows.{Sides}
-use Rattle.circuit.specs.Laws.BatchRows.{batch-row-below, batch-rows-at-most}
+use Rattle.circuit.proofs.Laws.BatchRows.{batch-row-below, batch-rows-at-most}
 use Rattle.text.specs.Laws.Left.{left_in}
 use Rattle.text.specs.Laws.Put.{put-here, placed-then}
 use Rattle.circuit.specs.declared.Relation.{Relation}

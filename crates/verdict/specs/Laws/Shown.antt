@@ -16,7 +16,7 @@ use Rattle.circuit.specs.Parse.{parse, rows_of}
 use Rattle.circuit.specs.Valid.{validated}
 use Rattle.circuit.specs.Found.{rows_a_cycle, found}
 use Rattle.circuit.specs.Batched.{batch_row, unmapped_row}
-use Rattle.circuit.specs.Laws.BatchRows.{back-of-row}
+use Rattle.circuit.proofs.Laws.BatchRows.{back-of-row}
 use Rattle.verdict.specs.declared.Counts.{Counts}
 use Rattle.verdict.specs.declared.Verdict.{Verdict}
 use Rattle.verdict.specs.declared.Verdict.TheVariants.{Accepted, Failed}

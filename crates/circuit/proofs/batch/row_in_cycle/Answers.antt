@@ -13,7 +13,7 @@ use Rattle.circuit.specs.declared.Relation.{Relation}
 use Rattle.circuit.specs.declared.batch.BatchWord.TheVariants.{Row}
 use Rattle.circuit.specs.Found.{rows_a_cycle}
 use Rattle.circuit.specs.Batched.{row_in}
-use Rattle.circuit.specs.Laws.BatchRows.{batch-row-below, batch-rows-at-most}
+use Rattle.circuit.proofs.Laws.BatchRows.{batch-row-below, batch-rows-at-most}
 use Rattle.circuit.proofs.batch.row_in_cycle.Goals as goal
 
 -- with what stands before it, a batch row is below the batch's rows

@@ -12,7 +12,7 @@ use Rattle.circuit.specs.declared.batch.CycleRowAnswer.TheVariants.{At}
 use Rattle.circuit.specs.Found.{rows_a_cycle}
 use Rattle.circuit.specs.Laws.Search.{rows-some}
 use Rattle.circuit.specs.Batched.{unmapped_row}
-use Rattle.circuit.specs.Laws.BatchRows.{row_of, batch-rows-at-most}
+use Rattle.circuit.proofs.Laws.BatchRows.{row_of, batch-rows-at-most}
 use Rattle.base.specs.Laws.WaysOut.{waysOut}
 use Rattle.circuit.proofs.batch.unmap_row.Goals as goal
 

@@ -1,0 +1,3 @@
+-- Laws that rest on definitions which must-fail edits turn; the prover checks them, and nobody has to believe them.
+--     BatchRows         the batch row of a cycle's row and the way back undo each other, for every size and both relations
+pub mod BatchRows
