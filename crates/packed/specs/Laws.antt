@@ -9,13 +9,8 @@
 --     Places            a bit's place in batch order and in cycle order: the layout's mapping and its way back
 --     Queue             a block of 2 h words turned in six steps, and turned back
 --     Ranges            a range of words written over all cycles, turn by turn
---     RoundTrips        packed storage keeps what it is given, for every batch size
 --     Seen              what the or of words tells: whether each of them is a bit
 --     Stacked           bits pushed on a word, one by one and four at a time
---     StorageCalls      the calls of packed storage: where they say yes and where no, and their round trips
---     StorageExample    a batch of two cycles with one column set, in both orders; with a 2 there it is refused
---     Stored            a batch packed: the words that were made, handed over in either order; and the call
---     Unpack            packed words laid out as elements, turn by turn, and the batch that they make
 --     Words             column c of cycle d is bit c % 64 of word 32 · d + c / 64
 pub mod Columns
 pub mod Example
@@ -27,11 +22,6 @@ pub mod Order
 pub mod Places
 pub mod Queue
 pub mod Ranges
-pub mod RoundTrips
 pub mod Seen
 pub mod Stacked
-pub mod StorageCalls
-pub mod StorageExample
-pub mod Stored
-pub mod Unpack
 pub mod Words

@@ -33,7 +33,7 @@ use Rattle.cellprism.specs.BenchSheet.{Filled, p6_ones, BenchSheet}
 use Rattle.field.specs.Gf.Sheet as field
 use Rattle.layout.specs.Laws.Sheet as layout
 use Rattle.circuit.specs.Laws.House as circuit
-use Rattle.verdict.specs.Laws.Sheet as verdict
+use Rattle.verdict.proofs.Laws.Sheet as verdict
 use Rattle.witness.specs.Laws.Reading as witness
 
 -- ---- the theorem

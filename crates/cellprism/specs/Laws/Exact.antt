@@ -20,7 +20,7 @@ use Rattle.verdict.specs.Check.{Constraint, constraints, met, run, judged, known
 use Rattle.verdict.specs.Laws.Run.{Outcome, all-met, one-fails, outcome}
 use Rattle.verdict.specs.Laws.Counts.{plus, none-plus, rows-counted, tally, rows-tally, tally-all}
 use Rattle.verdict.specs.Counted.{CountedApart}
-use Rattle.verdict.specs.Laws.Counted.{known-counted}
+use Rattle.verdict.proofs.Laws.Counted.{known-counted}
 use Rattle.verdict.specs.Laws.Known.{every-known}
 use Rattle.cellprism.specs.Bytes.{words_of, row_of}
 use Rattle.cellprism.specs.Answer.{row_checked}

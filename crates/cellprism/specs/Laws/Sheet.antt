@@ -12,7 +12,7 @@ use Rattle.verdict.specs.declared.CheckAnswer.TheVariants.{Judged, Refused}
 use Rattle.strict.specs.declared.Known.TheVariants.{House}
 use Rattle.verdict.specs.Counts.{counts}
 use Rattle.verdict.specs.Sheet.{one_row}
-use Rattle.verdict.specs.Laws.Sheet.{zeros-accepted, one-judged}
+use Rattle.verdict.proofs.Laws.Sheet.{zeros-accepted, one-judged}
 use Rattle.cellprism.specs.Answer.{row_checked, answer_word}
 use Rattle.cellprism.specs.Sheet.{Answers}
 use Rattle.cellprism.specs.Laws.Back.{spelled, bytes_of, words_fit, row-judged}

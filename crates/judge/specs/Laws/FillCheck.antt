@@ -25,8 +25,8 @@ use Rattle.verdict.specs.declared.CheckAnswer.TheVariants.{Judged, Refused}
 use Rattle.verdict.specs.Row.{element_at}
 use Rattle.verdict.specs.Check.{judged, checked, known_checked}
 use Rattle.verdict.specs.Counted.{CountedApart}
-use Rattle.verdict.specs.Laws.Agree.{known-agrees}
-use Rattle.verdict.specs.Laws.Counted.{known-counted}
+use Rattle.verdict.proofs.Laws.Agree.{known-agrees}
+use Rattle.verdict.proofs.Laws.Counted.{known-counted}
 use Rattle.step.specs.Strict.{ConditionsOf}
 use Rattle.step.specs.Derived.{derived_in}
 use Rattle.step.specs.Filling.{SameElsewhere, filler_bits, filled}

@@ -17,7 +17,7 @@ use Rattle.verdict.specs.declared.CheckAnswer.{CheckAnswer}
 use Rattle.verdict.specs.declared.CheckAnswer.TheVariants.{Judged, Refused}
 use Rattle.verdict.specs.Counts.{every_row_of}
 use Rattle.verdict.specs.Check.{Checked, known_checked}
-use Rattle.verdict.specs.Laws.Agree.{known-agrees}
+use Rattle.verdict.proofs.Laws.Agree.{known-agrees}
 use Rattle.step.specs.Derived.{derived}
 use Rattle.step.specs.Filling.{filled}
 use Rattle.step.specs.Demand3.{fails}

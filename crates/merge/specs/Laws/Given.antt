@@ -17,8 +17,8 @@ use Rattle.verdict.specs.Row.{element_at}
 use Rattle.verdict.specs.Bits.{bit_tested}
 use Rattle.verdict.specs.Counts.{counts}
 use Rattle.verdict.specs.Check.{judged}
-use Rattle.verdict.specs.Laws.LaterCycles.{alone, bin-judged, fld-judged}
-use Rattle.verdict.specs.Laws.Sheet.{zeros as all-zero, zeros-accepted, element-alone}
+use Rattle.verdict.proofs.Laws.LaterCycles.{alone, bin-judged, fld-judged}
+use Rattle.verdict.proofs.Laws.Sheet.{zeros as all-zero, zeros-accepted, element-alone}
 use Rattle.step.proofs.Laws.BitTest.{two-is-none, tells}
 use Rattle.step.proofs.Laws.Chosen.{batch_of, batch-length}
 use Rattle.step.proofs.Laws.Clauses.{replaced, replaced-length}

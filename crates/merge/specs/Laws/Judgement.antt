@@ -28,7 +28,7 @@ use Rattle.verdict.specs.Check.{Constraint, in_cycle, in_cycles, constraints, ru
 use Rattle.verdict.specs.Counted.{in_relation, tested_in}
 use Rattle.verdict.specs.Named.{named_by}
 use Rattle.verdict.specs.Laws.Counts.{none-plus, of_one}
-use Rattle.verdict.specs.Laws.Counted.{Walked, whole, ended, relation-walked, in_all, all, test}
+use Rattle.verdict.proofs.Laws.Counted.{Walked, whole, ended, relation-walked, in_all, all, test}
 use Rattle.verdict.specs.Laws.Named.{holds-depends}
 use Rattle.verdict.specs.Laws.Run.{onward, run-onward, run-same, later, run-from}
 use Rattle.verdict.specs.Laws.Shown.{failed-names}

@@ -15,7 +15,7 @@ use Rattle.strict.specs.Known.{listing_of}
 use Rattle.verdict.specs.declared.Verdict.{Verdict}
 use Rattle.verdict.specs.declared.CheckAnswer.TheVariants.{Judged, Refused}
 use Rattle.verdict.specs.Check.{judged, asked, checked, known_checked}
-use Rattle.verdict.specs.Laws.Scratch.{told}
+use Rattle.verdict.proofs.Laws.Scratch.{told}
 use Rattle.step.specs.Demand3.{accepts}
 use Rattle.merge.specs.Merged.{merged}
 use Rattle.merge.specs.Calls.{merge_asked, merge_called}

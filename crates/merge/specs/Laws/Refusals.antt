@@ -16,7 +16,7 @@ use Rattle.layout.specs.Batch.{allowed, batch_words}
 use Rattle.layout.specs.Questions.{no}
 use Rattle.layout.specs.Laws.Questions.{if_yes_lem, if_no, called-no}
 use Rattle.verdict.specs.Row.{element_at}
-use Rattle.verdict.specs.Laws.Sheet.{element-alone}
+use Rattle.verdict.proofs.Laws.Sheet.{element-alone}
 use Rattle.merge.specs.Merged.{merged}
 use Rattle.merge.specs.Calls.{sizes_asked, merge_asked, merge_called, differs, first_differing}
 use Rattle.merge.specs.Laws.Answers.{sizes-yes}

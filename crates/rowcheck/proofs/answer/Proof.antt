@@ -5,7 +5,7 @@ use native.Mathlib.Omega.{arith}
 use borrow.Author.Rules.{rules}
 use Rattle.text.specs.Laws.Put.{put-fits, placed-as}
 use Rattle.page.specs.Line.{answer_line}
-use Rattle.page.specs.Laws.Line.{line-short}
+use Rattle.page.proofs.Laws.Line.{line-short}
 use Rattle.rowcheck.proofs.answer.Statement.{statement}
 use Rattle.rowcheck.proofs.answer.Tie as tie
 

@@ -16,7 +16,7 @@ use Rattle.verdict.specs.declared.CheckAnswer.TheVariants.{Judged, Refused}
 use Rattle.verdict.specs.Counts.{counts}
 use Rattle.verdict.specs.Check.{asked, checked}
 use Rattle.verdict.specs.Sheet.{one_row}
-use Rattle.verdict.specs.Laws.Sheet.{p4, p5}
+use Rattle.verdict.proofs.Laws.Sheet.{p4, p5}
 use Rattle.step.specs.Demand3.{accepts, fails}
 
 -- is an answer accepted, and does it fail?

@@ -18,7 +18,7 @@ use Rattle.field.specs.Gf.Laws.{words-zero, words-injective}
 use Rattle.layout.specs.Laws.Mapping.{witness-column, public-column}
 use Rattle.layout.specs.Batch.{batch_words}
 use Rattle.verdict.specs.Row.{element_at, cycle_of, bits_of}
-use Rattle.verdict.specs.Laws.Sheet.{zeros}
+use Rattle.verdict.proofs.Laws.Sheet.{zeros}
 use Rattle.step.specs.Filling.{NotDerived, put, put_each, filler_bits, filled}
 use Rattle.step.specs.Demand3.{Premises}
 use Rattle.step.proofs.Laws.Given.{SameGiven}

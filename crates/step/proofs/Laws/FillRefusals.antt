@@ -22,7 +22,7 @@ use Rattle.layout.specs.Questions.{no, after}
 use Rattle.layout.specs.Laws.Sizes.{allowed-range}
 use Rattle.layout.specs.Laws.Questions.{if_yes_lem, yes-batch}
 use Rattle.verdict.specs.Row.{element_at}
-use Rattle.verdict.specs.Laws.Sheet.{zeros}
+use Rattle.verdict.proofs.Laws.Sheet.{zeros}
 use Rattle.step.specs.Derived.{derived, derived_in}
 use Rattle.step.specs.Filling.{filled}
 use Rattle.step.specs.Fill.{faulty, first_faulty, fill_asked, called}

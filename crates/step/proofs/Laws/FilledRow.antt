@@ -39,7 +39,7 @@ use Rattle.verdict.specs.Laws.Counts.{plus, none-plus, tally, tally-append}
 use Rattle.verdict.specs.Laws.Known.{every-known}
 use Rattle.verdict.specs.Laws.Run.{Met, run_past}
 use Rattle.verdict.specs.Laws.Verdicts.{accepts}
-use Rattle.verdict.specs.Laws.Sheet.{checked-is}
+use Rattle.verdict.proofs.Laws.Sheet.{checked-is}
 use Rattle.step.specs.Step.{Step, opcode}
 use Rattle.step.specs.Derived.{derived}
 use Rattle.step.specs.Solve.{Holds}

@@ -27,7 +27,7 @@ use Rattle.layout.specs.Laws.Mapping.{column-is}
 use Rattle.circuit.specs.Rows.{Sides}
 use Rattle.verdict.specs.Row.{element_at, cycle_of, bits_of}
 use Rattle.verdict.specs.Sheet.{one_row}
-use Rattle.verdict.specs.Laws.Sheet.{zeros}
+use Rattle.verdict.proofs.Laws.Sheet.{zeros}
 use Rattle.step.specs.Derived.{derived}
 use Rattle.step.specs.Solve.{lacks, Holds}
 use Rattle.step.specs.Determining.{determining}

@@ -18,8 +18,8 @@ use Rattle.verdict.specs.declared.CheckAnswer.{CheckAnswer}
 use Rattle.verdict.specs.declared.CheckAnswer.TheVariants.{Judged, Refused}
 use Rattle.verdict.specs.Row.{cycle_of, holds}
 use Rattle.verdict.specs.Check.{judged, checked, known_checked}
-use Rattle.verdict.specs.Laws.Agree.{known-agrees}
-use Rattle.verdict.specs.Laws.Scratch.{any-scratch}
+use Rattle.verdict.proofs.Laws.Agree.{known-agrees}
+use Rattle.verdict.proofs.Laws.Scratch.{any-scratch}
 use Rattle.step.specs.Demand3.{accepts}
 use Rattle.step.specs.Stricter.{by_house, by_strict, FlagsHold, Stricter}
 use Rattle.step.proofs.Laws.Batch.{RowsHold}

@@ -3,7 +3,7 @@
 use native.Mathlib.Omega.{arith}
 use borrow.Author.Rules.{rules}
 use Rattle.text.specs.Laws.Put.{put-fits, placed-as}
-use Rattle.page.specs.Laws.Line.{verdict-short, line-short}
+use Rattle.page.proofs.Laws.Line.{verdict-short, line-short}
 use Rattle.benchpage.specs.Laws.Printed.{refused-printed, accepted-printed, failed-printed, failed-named}
 use Rattle.benchpage.proofs.show.show.Statement.{statement}
 use Rattle.benchpage.proofs.show.show.Tie as tie

@@ -2,7 +2,7 @@
 -- Assumes nothing.
 use Rattle.base.specs.Laws.WaysOut.{told}
 use Rattle.layout.specs.Laws.Questions.{called-yes, called-no}
-use Rattle.packed.specs.Laws.StorageCalls.{order-in}
+use Rattle.packed.proofs.Laws.StorageCalls.{order-in}
 use Rattle.std.proofs.Common.{rules}
 use Rattle.packed.proofs.storage.rearrange.Goals as goal
 

@@ -2,7 +2,7 @@
 -- Assumes nothing.
 use Rattle.std.proofs.Common.{sym, ◌∙◌, rules}
 use Rattle.base.specs.Laws.WaysOut.{told}
-use Rattle.packed.specs.Laws.Unpack.{unpack-in, unpack-none, unpack-yes}
+use Rattle.packed.proofs.Laws.Unpack.{unpack-in, unpack-none, unpack-yes}
 use Rattle.packed.proofs.storage.unpack.Goals as goal
 
 pub lay_words-requires : goal.lay_words-requires

@@ -2,7 +2,7 @@
 -- Assumes nothing.
 use Rattle.std.proofs.Common.{◌≡◌, ◌+◌, ◌-◌, ◌*◌, ◌/◌, ◌%◌, ◌^◌, ◌≤◌, arith, length-set, rules}
 use Rattle.packed.specs.Unpack.{Laid}
-use Rattle.packed.specs.Laws.Unpack.{first_rest, next-rest, no-laid, next-laid, all_laid}
+use Rattle.packed.proofs.Laws.Unpack.{first_rest, next-rest, no-laid, next-laid, all_laid}
 use Rattle.packed.proofs.unpack.lay_word.Goals as goal
 
 pub loop-j-init : goal.loop-j-init

@@ -2,7 +2,7 @@
 -- Assumes nothing.
 use Rattle.std.proofs.Common.{◌-◌, ◌≤◌, length, arith, rules}
 use Rattle.packed.specs.Unpack.{Unpacked}
-use Rattle.packed.specs.Laws.Unpack.{none-unpacked, next-unpacked, all-unpacked}
+use Rattle.packed.proofs.Laws.Unpack.{none-unpacked, next-unpacked, all-unpacked}
 use Rattle.packed.proofs.unpack.lay_words.Goals as goal
 
 pub loop-k-init : goal.loop-k-init

@@ -15,7 +15,7 @@ use Rattle.verdict.specs.declared.CheckAnswer.TheVariants.{Judged, Refused}
 use Rattle.verdict.specs.Counts.{rows, counts_of, every_row_of}
 use Rattle.verdict.specs.Check.{judged, checked, known_checked}
 use Rattle.verdict.specs.Laws.Known.{every-known}
-use Rattle.verdict.specs.Laws.Scratch.{answer-fits}
+use Rattle.verdict.proofs.Laws.Scratch.{answer-fits}
 use Rattle.verdict.specs.Laws.Verdicts.{accepts, accepted}
 
 pub known-agrees : (k : Known) (cpi : ℕ) (batch scratch : List ℕ) → scratch_fits (length scratch) ≡ true

@@ -21,7 +21,7 @@ use Rattle.packed.specs.Named.{NamedIn}
 use Rattle.packed.specs.RoundTrips.{Left, Joins, CallsKept}
 use Rattle.packed.specs.Laws.InWords.{with-length}
 use Rattle.packed.specs.Laws.Named.{asked-yes-in, in-asked-yes}
-use Rattle.packed.specs.Laws.RoundTrips.{unpacked-length, unpacked-bits, kept}
+use Rattle.packed.proofs.Laws.RoundTrips.{unpacked-length, unpacked-bits, kept}
 
 -- ---- what a yes says, and where it is said
 

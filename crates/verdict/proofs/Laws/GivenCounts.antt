@@ -14,9 +14,9 @@ use Rattle.verdict.specs.Counts.{counts, counts_of}
 use Rattle.verdict.specs.Check.{constraints, Checked, judged}
 use Rattle.verdict.specs.Counted.{in_relation, tested_in, CountedApart}
 use Rattle.verdict.specs.Sheet.{one_row}
-use Rattle.verdict.specs.Laws.Counted.{call-counted}
-use Rattle.verdict.specs.Laws.Sheet.{zeros-accepted, p5}
-use Rattle.verdict.specs.Laws.LaterCycles.{bin-judged, fld-judged, last}
+use Rattle.verdict.proofs.Laws.Counted.{call-counted}
+use Rattle.verdict.proofs.Laws.Sheet.{zeros-accepted, p5}
+use Rattle.verdict.proofs.Laws.LaterCycles.{bin-judged, fld-judged, last}
 
 pub record GivenTested : Type 0 where
   -- one cycle, only the one column 1: bin row 263 fails

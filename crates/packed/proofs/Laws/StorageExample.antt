@@ -22,7 +22,7 @@ use Rattle.packed.specs.Named.{NamedIn}
 use Rattle.packed.specs.RoundTrips.{Left, Joins}
 use Rattle.packed.specs.Laws.InWords.{with-length, with-bit, with-fit, same-words}
 use Rattle.packed.specs.Laws.Named.{bits_each}
-use Rattle.packed.specs.Laws.StorageCalls.{yes-store, yes-order, columns-last, calls-kept}
+use Rattle.packed.proofs.Laws.StorageCalls.{yes-store, yes-order, columns-last, calls-kept}
 
 -- v in the low word of batch column 131
 unfoldable pub lone : ℕ → List ℕ

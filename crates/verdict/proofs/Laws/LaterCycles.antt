@@ -36,7 +36,7 @@ use Rattle.verdict.specs.Laws.Counts.{plus, none-plus, of_one, tally}
 use Rattle.verdict.specs.Laws.Known.{tally-known}
 use Rattle.verdict.specs.Laws.Verdicts.{in-cycles, cycle-fails, answered-yes}
 use Rattle.verdict.specs.Laws.ColumnAlone.{holds-zero, test_alone, all_told, cycle-says}
-use Rattle.verdict.specs.Laws.Sheet.{element-alone}
+use Rattle.verdict.proofs.Laws.Sheet.{element-alone}
 use Rattle.field.specs.Gf as gf
 
 -- a batch of cpi cycles: 1 in column c of cycle d, and 0 everywhere else

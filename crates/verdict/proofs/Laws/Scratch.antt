@@ -23,8 +23,8 @@ use Rattle.verdict.specs.Counts.{counts}
 use Rattle.verdict.specs.Check.{Checked, judged, asked, after, checked}
 use Rattle.verdict.specs.Scratch.{Call, AnyScratch}
 use Rattle.verdict.specs.Sheet.{zero_row, one_row}
-use Rattle.verdict.specs.Laws.Sheet.{p4, p5}
-use Rattle.verdict.specs.Laws.LaterCycles.{last}
+use Rattle.verdict.proofs.Laws.Sheet.{p4, p5}
+use Rattle.verdict.proofs.Laws.LaterCycles.{last}
 
 -- ---- what is left in scratch, by the answer
 

@@ -29,7 +29,7 @@ use Rattle.packed.specs.Stored.{packed_in, Handed, store_called}
 use Rattle.packed.specs.Laws.InWords.{are_words}
 use Rattle.packed.specs.Laws.Named.{bits_each, in-asked-yes}
 use Rattle.packed.specs.Laws.Words.{word-bits}
-use Rattle.packed.specs.Laws.RoundTrips.{kept}
+use Rattle.packed.proofs.Laws.RoundTrips.{kept}
 
 -- ---- words in batch order, made apart
 

@@ -29,7 +29,7 @@ use Rattle.verdict.specs.Counted.{tested, in_relation, rows_in, tested_in, Count
 use Rattle.verdict.specs.Laws.Counts.{plus, plus_none, none-plus, counted-first, rows-counted, rows-every, of_one, counted-one, tally, tally-cycles}
 use Rattle.verdict.specs.Laws.Run.{run_past, met-run, run-stops}
 use Rattle.verdict.specs.Laws.Verdicts.{in-cycles}
-use Rattle.verdict.specs.Laws.Scratch.{told}
+use Rattle.verdict.proofs.Laws.Scratch.{told}
 
 -- ---- the walk: its counts add up to what is tested
 
