@@ -1,8 +1,6 @@
 -- Laws, which the prover checks; nobody has to believe them.
 --     Exactly           a cycle is judged with yes exactly when it meets the conditions and its derived columns are the filler's
 --     Examples          the definitions met by examples, and cycles close to them that are judged with no
---     FillCheck         filling and checking promises what demand 3 says of acceptance: of a slice as it is lent, whose words are words
---     FillCheckExamples  filling and checking, of given batches of every size
 --     Filled            what the filler makes of a batch is over bits, and is judged as the conditions say
 --     Judges            over bits, every cycle is judged with yes exactly when the check accepts
 --     Named             the same where bits are known only in the columns that rows name
@@ -12,8 +10,6 @@
 --     Written           blocks are written in a cycle exactly when each of their columns has the bit of its block's word
 pub mod Exactly
 pub mod Examples
-pub mod FillCheck
-pub mod FillCheckExamples
 pub mod Filled
 pub mod Judges
 pub mod Named

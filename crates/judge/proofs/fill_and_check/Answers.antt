@@ -3,7 +3,7 @@
 -- Assumes nothing.
 use native.Mathlib.Omega.{arith}
 use borrow.Author.Rules.{rules}
-use Rattle.judge.specs.Laws.FillCheck.{promised-no, promised-yes}
+use Rattle.judge.proofs.Laws.FillCheck.{promised-no, promised-yes}
 use Rattle.judge.proofs.fill_and_check.Goals as goal
 
 pub returns-in-No : goal.returns-in-No

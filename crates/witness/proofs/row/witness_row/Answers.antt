@@ -10,7 +10,7 @@ use Rattle.witness.specs.Row.{row_word, made_row, row_called}
 use Rattle.witness.specs.Laws.Upper.{public-yes}
 use Rattle.witness.specs.Laws.RowWords.{Words}
 use Rattle.witness.specs.RowWords.{bit_in}
-use Rattle.witness.specs.Laws.Carried.{made-by-words}
+use Rattle.witness.proofs.Laws.Carried.{made-by-words}
 use Rattle.witness.proofs.row.witness_row.Goals as goal
 
 pub write_row-requires : goal.write_row-requires

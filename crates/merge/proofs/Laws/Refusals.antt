@@ -20,7 +20,7 @@ use Rattle.verdict.proofs.Laws.Sheet.{element-alone}
 use Rattle.merge.specs.Merged.{merged}
 use Rattle.merge.specs.Calls.{sizes_asked, merge_asked, merge_called, differs, first_differing}
 use Rattle.merge.specs.Laws.Answers.{sizes-yes}
-use Rattle.merge.specs.Laws.Given.{zeros, zeros-long, zero-at}
+use Rattle.merge.proofs.Laws.Given.{zeros, zeros-long, zero-at}
 
 -- a call that is refused, and leaves what was there
 abbrev Refuses : ℕ → List ℕ → ℕ → List ℕ → List ℕ → ℕ → ℕ → Type 0

@@ -22,10 +22,10 @@ use Rattle.merge.specs.Calls.{merge_asked, merge_called}
 use Rattle.merge.specs.Joined.{joined, joined_answer, failure_of}
 use Rattle.merge.specs.Merging.{Judgement, Merging}
 use Rattle.merge.specs.Laws.Answers.{all-passed, twice-allowed}
-use Rattle.merge.specs.Laws.Bits.{bits}
+use Rattle.merge.proofs.Laws.Bits.{bits}
 use Rattle.merge.specs.Laws.Columns.{SamePublic, merged-length, columns}
-use Rattle.merge.specs.Laws.Filling.{filled-merged}
-use Rattle.merge.specs.Laws.Judgement.{merged-verdict, joined-failure, joined-accepts, rows_apart}
+use Rattle.merge.proofs.Laws.Filling.{filled-merged}
+use Rattle.merge.proofs.Laws.Judgement.{merged-verdict, joined-failure, joined-accepts, rows_apart}
 
 -- ---- the check of a batch whose size and length are right: what is left to be asked does not depend on the batch
 

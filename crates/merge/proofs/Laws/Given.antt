@@ -24,8 +24,8 @@ use Rattle.step.proofs.Laws.Chosen.{batch_of, batch-length}
 use Rattle.step.proofs.Laws.Clauses.{replaced, replaced-length}
 use Rattle.merge.specs.Merged.{cycle_word, lower_word, public_word, merged_word, merged}
 use Rattle.merge.specs.Joined.{joined, joined_bits}
-use Rattle.merge.specs.Laws.Bits.{bits as merged-bits}
-use Rattle.merge.specs.Laws.Judgement.{merged-verdict}
+use Rattle.merge.proofs.Laws.Bits.{bits as merged-bits}
+use Rattle.merge.proofs.Laws.Judgement.{merged-verdict}
 
 -- ---- words of two batches of two cycles each, whatever they hold
 

@@ -30,7 +30,7 @@ use Rattle.witness.specs.declared.records.RomRow.{RomRow}
 use Rattle.witness.specs.Row.{made_row}
 use Rattle.witness.specs.RowWords.{flags_word, bus_word, given_words, row_words}
 use Rattle.witness.specs.Laws.RowWords.{Words, second_lt, alu_lt}
-use Rattle.witness.specs.Laws.Carried.{words-bits, halt-read, taken-read, flags-lt}
+use Rattle.witness.proofs.Laws.Carried.{words-bits, halt-read, taken-read, flags-lt}
 use Rattle.witness.specs.Laws.MadeRow.{row-length, bit-at, one-is, not-above}
 use Rattle.filler.specs.Words as filler
 

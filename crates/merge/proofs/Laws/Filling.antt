@@ -26,7 +26,7 @@ use Rattle.merge.specs.Merged.{merged}
 use Rattle.merge.specs.Calls.{merge_asked, merge_called}
 use Rattle.merge.specs.Merging.{Filled}
 use Rattle.merge.specs.Laws.Answers.{twice-allowed, fitting-yes}
-use Rattle.merge.specs.Laws.Bits.{none-merged, above-first, above-second}
+use Rattle.merge.proofs.Laws.Bits.{none-merged, above-first, above-second}
 use Rattle.merge.specs.Laws.Columns.{SamePublic, merged-length, first-element, second-element, public-element, seen_first, seen-second}
 
 -- ---- a column of the merged batch is one of the first's, one of the second's, or a public one

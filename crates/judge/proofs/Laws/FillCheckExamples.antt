@@ -29,7 +29,7 @@ use Rattle.step.proofs.Laws.Chosen.{batch_of, premises-of}
 use Rattle.step.proofs.Laws.Clauses.{replaced, idle, shifts_in, shift-meets-not}
 use Rattle.judge.specs.FillCheck.{FillChecked, answer_after, fill_checked, Promised}
 use Rattle.judge.specs.Laws.Examples.{batch-examples}
-use Rattle.judge.specs.Laws.FillCheck.{is-judged, fill-promised}
+use Rattle.judge.proofs.Laws.FillCheck.{is-judged, fill-promised}
 
 -- a batch is refused with a number and a place, and stays as it came
 abbrev pub RefusedAs : Known → ℕ → ℕ → ℕ → List ℕ → Type 0

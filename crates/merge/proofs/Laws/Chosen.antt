@@ -21,7 +21,7 @@ use Rattle.merge.specs.Merged.{merged}
 use Rattle.merge.specs.Calls.{merge_asked, merge_called}
 use Rattle.merge.specs.Laws.Answers.{fitting-yes}
 use Rattle.merge.specs.Laws.Columns.{SamePublic, merged-length, seen_first, seen-second}
-use Rattle.merge.specs.Laws.Filling.{merged-filling}
+use Rattle.merge.proofs.Laws.Filling.{merged-filling}
 
 -- batches whose cycles are seen alike are the same
 by-cycles : (n : ℕ) (u w : List ℕ) → 0 < n → length u ≡ length w → ((d : ℕ) → d < n → (c : ℕ) → cycle_of n u d c ≡ cycle_of n w d c) → u ≡ w

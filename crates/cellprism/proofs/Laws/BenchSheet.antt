@@ -28,7 +28,7 @@ use Rattle.step.proofs.Laws.FilledRow.{Gives, accepted, address-fails, sum-fails
 use Rattle.step.proofs.Laws.Sheet.{with-ones, with-output, derived-ones}
 use Rattle.filler.specs.Met.{conditions, byte_of}
 use Rattle.filler.specs.Laws.MetFirst.{all_true_lem}
-use Rattle.judge.specs.Laws.FillCheckExamples.{filled-and-judged}
+use Rattle.judge.proofs.Laws.FillCheckExamples.{filled-and-judged}
 use Rattle.cellprism.specs.BenchSheet.{Filled, p6_ones, BenchSheet}
 use Rattle.field.specs.Gf.Sheet as field
 use Rattle.layout.specs.Laws.Sheet as layout
