@@ -1,5 +1,6 @@
 // Reads one row from standard input and prints the verdict of the check.
 #![tactic(auto)]
+
 ghost use Rattle.std.specs.Prelude.{◌≤◌, length};
 ghost use Rattle.text.specs.Put.{Placed};
 ghost use Rattle.page.specs.Line.{answer_line};
