@@ -1,6 +1,7 @@
 // Reads one row from standard input and prints the pages of the first row of the house listing that it fails, or, where there is none,
 // the line that rowcheck prints.
 #![tactic(auto)]
+
 mod show;
 
 use printer::input;
