@@ -1,5 +1,6 @@
 // Replays a fixed list of the original's answers, which the file itself describes, and counts those that the product does not give.
 #![tactic(auto)]
+
 mod line;
 mod makers;
 mod numbers;
@@ -139,5 +140,8 @@ fn main(rt: HostRuntime) -> io::Result<()> {
     let mut lent = [0u64; 0x8000];
     let mut made = [0u64; 0x8000];
     let tally = replay_all(&text[..n], &mut cells, &mut lent, &mut made);
-    println!(rt; "{} answers as they should be, {} others", tally.right, tally.wrong)
+    println!(rt;
+        "{} answers as they should be, {} others",
+        tally.right, tally.wrong
+    )
 }
