@@ -1,9 +1,14 @@
-// Prints the words of a listing, for the programs that do so.
+// Reads and prints for the programs: fills a buffer from a reader, and prints the words of a listing.
 #![tactic(auto)]
-ghost use Rattle.std.specs.Prelude.{◌≡◌};
+
+pub mod input;
+
+ghost use Rattle.std.specs.Prelude.{◌≡◌, flat_map, OnOk};
+ghost use Rattle.std.specs.Io.KnownBytes.{Appends};
 ghost use Rattle.printer.specs.Hex.{line_of};
 
-use libc::STDOUT_FILENO;
+use std::io;
+use std::io::Write;
 
 // The digits over line ends: the last one stays.
 fn line(w: u32) -> [u8; 9]
@@ -16,11 +21,11 @@ fn line(w: u32) -> [u8; 9]
 }
 
 // Each word as 8 lower-case hex digits and a line end.
-pub fn print_words(words: &[u32]) {
-    let mut i: usize = 0;
-    while i < words.len() {
-        let text = line(words[i]);
-        io::write_all(STDOUT_FILENO, &text);
-        i = i + 1;
+pub fn print_words<W: Write>(out: &mut W, words: &[u32]) -> io::Result<()>
+    ensures { OnOk result (Appends (W.contents out.old) (W.contents out.new) (flat_map line_of words.now)) }
+{
+    for word in words {
+        out.write_all(&line(*word))?;
     }
+    Ok(())
 }

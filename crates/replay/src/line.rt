@@ -61,14 +61,12 @@ fn line_end(text: &[u8], from: usize) -> usize
     requires { from ≤ length text.now }
     ensures { (from ≤ result) × (result ≤ length text.now) }
 {
-    let mut i = from;
-    while i < text.len() {
+    for i in from..text.len() {
         if text[i] == b'\n' {
             return i;
         }
-        i = i + 1;
     }
-    i
+    text.len()
 }
 
 fn numbers_in(text: &[u8]) -> [u64; 8] {
@@ -76,10 +74,8 @@ fn numbers_in(text: &[u8]) -> [u64; 8] {
         values: [0u64; 8],
         count: 0,
     };
-    let mut i: usize = 0;
-    while i < text.len() {
-        f = with_byte(f, text[i]);
-        i = i + 1;
+    for b in text {
+        f = with_byte(f, *b);
     }
     f.values
 }

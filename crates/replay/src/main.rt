@@ -1,5 +1,6 @@
 // Replays a fixed list of the original's answers, which the file itself describes, and counts those that the product does not give.
 #![tactic(auto)]
+
 mod line;
 mod makers;
 mod numbers;
@@ -13,7 +14,8 @@ use crate::makers::Made;
 use crate::numbers::Numbers;
 use crate::readings::Reading;
 use crate::words::Put;
-use libc::{STDIN_FILENO, STDOUT_FILENO};
+use printer::input;
+use std::io;
 
 // What a line comes to: nothing to answer, the right answer, or another one.
 #[derive(Clone, Copy)]
@@ -131,15 +133,15 @@ fn replay_all(text: &[u8], cells: &mut [u64], lent: &mut [u64], made: &mut [u64]
 }
 
 // One byte more is read than is replayed, so that a longer text is seen and not cut.
-fn main() {
+fn main(rt: HostRuntime) -> io::Result<()> {
     let mut text = [0u8; 0x80001];
-    let n = io::read_full(STDIN_FILENO, &mut text);
+    let n = input::read_full(&mut rt.stdin(), &mut text)?;
     let mut cells = [0u64; 0x8000];
     let mut lent = [0u64; 0x8000];
     let mut made = [0u64; 0x8000];
     let tally = replay_all(&text[..n], &mut cells, &mut lent, &mut made);
-    io::print_decimal(STDOUT_FILENO, tally.right);
-    io::write_all(STDOUT_FILENO, b" answers as they should be, ");
-    io::print_decimal(STDOUT_FILENO, tally.wrong);
-    io::write_all(STDOUT_FILENO, b" others\n");
+    println!(rt;
+        "{} answers as they should be, {} others",
+        tally.right, tally.wrong
+    )
 }

@@ -39,12 +39,10 @@ fn put_bits(batch: &mut [u64], column: u64, step: u64, word: u64) -> bool {
     let mut at = column;
     let mut rest = word;
     let mut done = true;
-    let mut i: usize = 0;
-    while i < 0x40 {
+    for _ in 0..0x40usize {
         done = put_element(batch, at, rest % 2, 0) & done;
         rest = rest / 2;
         at = at + step;
-        i = i + 1;
     }
     done
 }
@@ -56,10 +54,8 @@ fn put_seven(words: &mut [u64], n: [u64; 8]) -> bool {
         return false;
     }
     let mut done = true;
-    let mut i: usize = 1;
-    while i < 8 {
+    for i in 1..8 {
         done = put_word(words, at + i as u64 - 1, n[i]) & done;
-        i = i + 1;
     }
     done
 }
@@ -78,23 +74,19 @@ pub fn is_put(k: Put, n: [u64; 8], words: &mut [u64]) -> bool {
 }
 
 pub fn fill_with(words: &mut [u64], word: u64) {
-    let mut i: usize = 0;
-    while i < words.len() {
-        words[i] = word;
-        i = i + 1;
+    for place in words {
+        *place = word;
     }
 }
 
 pub fn same_words(words: &[u64], right: &[u64]) -> bool {
-    let mut i: usize = 0;
-    while i < words.len() {
+    for i in 0..words.len() {
         if right.len() <= i {
             return false;
         }
         if words[i] != right[i] {
             return false;
         }
-        i = i + 1;
     }
     true
 }

@@ -1,11 +1,14 @@
 // Reads one row from standard input and prints the verdict of the check.
 #![tactic(auto)]
+
 ghost use Rattle.std.specs.Prelude.{◌≤◌, length};
 ghost use Rattle.text.specs.Put.{Placed};
 ghost use Rattle.page.specs.Line.{answer_line};
 ghost use Rattle.cellprism.specs.Answer.{row_checked};
 
-use libc::{STDIN_FILENO, STDOUT_FILENO};
+use printer::input;
+use std::io;
+use std::io::Write;
 
 // Puts the line of the verdict at the start, and gives how many bytes it has. Each of its numbers is given room for 20 digits.
 fn answer(row: &[u8], out: &mut [u8]) -> usize
@@ -16,10 +19,10 @@ fn answer(row: &[u8], out: &mut [u8]) -> usize
 }
 
 // One byte more than a row has: what is longer is refused, and endless input ends.
-fn main() {
+fn main(rt: HostRuntime) -> io::Result<()> {
     let mut row = [0u8; 65537];
-    let n = io::read_full(STDIN_FILENO, &mut row);
+    let n = input::read_full(&mut rt.stdin(), &mut row)?;
     let mut line = [0u8; 88];
     let end = answer(&row[..n], &mut line);
-    io::write_all(STDOUT_FILENO, &line[..end]);
+    rt.stdout().write_all(&line[..end])
 }
