@@ -1,7 +1,7 @@
 -- Fields of a row of columns, each a block of columns with the word whose low bits stand there; the bit that a column has.
 -- Assumes nothing.
 use Rattle.std.specs.Prelude.{Bool, false, ◌&&◌, ◌||◌, cond, List, [], ◌∷◌, ℕ, ◌+◌, ◌-◌, leb, ltb}
-use Rattle.base.specs.Bits.{word, bit_at}
+use Rattle.base.specs.Bits.{bit_at}
 
 -- so many columns from one on, and the word whose low bits go there
 pub record Block : Type 0 where

@@ -1,6 +1,6 @@
 -- The segments of `SEGMENTS_CPU`. A start is the column that `WITNESS_LAYOUT` gives: sums of the lengths would put fetch at 808.
 -- Assumes nothing.
-use Rattle.std.specs.Prelude.{Bool, true, ◌&&◌, cond, List, [], ◌∷◌, map, ℕ, ◌+◌, ◌-◌, leb, ltb, length, get_or}
+use Rattle.std.specs.Prelude.{Bool, true, ◌&&◌, cond, List, [], ◌∷◌, map, ℕ, ◌+◌, leb, ltb, length, get_or}
 use Rattle.base.specs.Text.{ascii, left}
 use Rattle.base.specs.Lists.{joined}
 use Rattle.layout.specs.Columns.{W-COLS, RS1, RS2, RD, LOAD-VAL, SHIFT-OUT, T1, T2, CARRY-OFF, ALU, SHIFT-SRC, STORE-OLD, STORE-SRC, FLAGS, OFF, RAM-ADDR, PC, FETCH, EQA, ZERO}

@@ -1,6 +1,5 @@
 -- `base::clear` meets its contract: all is written, and it is 0.
 -- Assumes nothing.
-use borrow.Author.Rules.{rules}
 use Rattle.base.specs.Laws.Written.{written-zero}
 use Rattle.base.proofs.clear.Goals as goal
 

@@ -1,11 +1,8 @@
 -- `base::clear_from` meets its contract: from start on it is 0, as far as the loop has come.
 -- Assumes nothing.
 use mathlib.Core.Path.{refl}
-use Prim.Native.Nat.{◌≤◌, ◌-◌}
 use native.Mathlib.Omega.{arith}
 use borrow.Author.Rules.{rules}
-use lib.ListN.{length}
-use Rattle.base.specs.Written.{Written}
 use Rattle.base.specs.Laws.Written.{written_none, written-more, written-end}
 use Rattle.base.proofs.clear_from.Goals as goal
 

@@ -1,11 +1,8 @@
 -- `base::copy_at` meets its contract: from start on stand the words, as far as the loop has come.
 -- Assumes nothing.
 use mathlib.Core.Path.{refl}
-use Prim.Native.Nat.{◌+◌, ◌≤◌, ◌-◌}
 use native.Mathlib.Omega.{arith}
 use borrow.Author.Rules.{rules}
-use lib.ListN.{length, get_or}
-use Rattle.base.specs.Written.{Written}
 use Rattle.base.specs.Laws.Written.{written_none, written-more, copied-end}
 use Rattle.base.proofs.copy_at.Goals as goal
 

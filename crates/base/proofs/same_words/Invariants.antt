@@ -1,11 +1,9 @@
 -- `base::same_words` meets its contract: what differs so far is 0 exactly where the words passed are the same.
 -- Assumes nothing.
-use mathlib.Core.Path.{◌≡◌, refl, subst}
+use mathlib.Core.Path.{◌≡◌}
 use mathlib.Core.Logic.{◌↔◌}
-use Prim.Native.Nat.{ℕ, ◌-◌, ◌≤◌}
-use native.Mathlib.Omega.{arith}
-use Rattle.base.specs.Laws.Compared.{SameBelow, compared-none, compared-more, compared-all, other_length}
-use borrow.Author.Rules.{rules}
+use Prim.Native.Nat.{◌-◌, ◌≤◌}
+use Rattle.base.specs.Laws.Compared.{SameBelow}
 use Rattle.base.proofs.same_words.Given as goal
 
 abbrev pub invariant-loop-i : goal.invariant-loop-i

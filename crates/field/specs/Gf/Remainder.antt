@@ -1,19 +1,15 @@
 -- What the modulus is to a product: `times-t` takes it off once, and no multiple of it but 0 has a degree below 128. What follows, that the
 -- field's product is the one remainder, stands in proofs/Laws/Remainder.antt.
-use Rattle.std.specs.Prelude.{◌≡◌, ℕ, zero, suc, ◌+◌, ◌*◌, ◌/◌, ◌%◌, ◌^◌, ◌<◌}
-use Rattle.std.proofs.Common.{sym, ap, ap₂, ◌∙◌, subst, mod-lt, div-add-mod', lt_of_lt_of_le, pow-suc, arith, pow_pos, pow_mono, shr_lt, shr-shr, lit<}
+use Rattle.std.specs.Prelude.{◌≡◌, ℕ, zero, suc, ◌*◌, ◌/◌, ◌%◌, ◌^◌, ◌<◌}
+use Rattle.std.proofs.Common.{sym, ap, ◌∙◌, subst, mod-lt, div-add-mod', lt_of_lt_of_le, arith, pow_pos, pow_mono, shr_lt, shr-shr, lit<}
 use Rattle.std.proofs.Math.Nat.{div-eq_of_lt}
-use Rattle.std.proofs.Math.Arith.{bin_ind, digits_mod, digits_div, lt-one}
+use Rattle.std.proofs.Math.Arith.{lt-one}
 use Rattle.std.proofs.lemmas.Nat.{shl-shr}
 use Rattle.std.proofs.Math.Pow.{shr_mod}
-use Rattle.field.specs.declared.Gf128.{Gf128}
-use Rattle.field.specs.Gf.{bit, ◌⊕◌, scale, times-t, ◌⊗◌, clmul, modulus, value, Proper, product, IsProduct}
+use Rattle.field.specs.Gf.{bit, ◌⊕◌, scale, times-t, clmul, modulus}
 use Rattle.field.specs.Gf.Coefficient.{bit_is, bit-lt}
-use Rattle.field.specs.Gf.Sum.{⊕-comm, ⊕-assoc, ⊕-swap, ⊕-self, ⊕-equal, zero-⊕, ⊕-zero, ⊕-lt, ⊕-shr, ⊕-disjoint, scale-⊕, scale-is}
-use Rattle.field.specs.Gf.Product.{⊗-zero, ⊗-horner, ⊗-lt}
-use Rattle.field.specs.Gf.Carryless.{double-⊕, clmul-zero, clmul-horner, ⊕-clmul, clmul-⊕, clmul-lt, power-clmul}
-use Rattle.field.specs.Gf.Element.{value-lt, value-injective, value-product}
-use Rattle.field.specs.Gf.Laws.{proper-product}
+use Rattle.field.specs.Gf.Sum.{⊕-comm, ⊕-swap, ⊕-self, ⊕-equal, ⊕-zero, ⊕-shr, ⊕-disjoint, scale-⊕, scale-is}
+use Rattle.field.specs.Gf.Carryless.{⊕-clmul, clmul-lt, power-clmul}
 
 -- t times a polynomial of degree below 128: times-t takes the modulus off once, where t^128 comes up
 pub reduced : (a : ℕ) → a < 2 ^ 128 → a * 2 ≡ times-t a ⊕ scale (bit a 127) modulus

@@ -1,6 +1,6 @@
 -- What the filler's code makes at each turn of its loops, and of its words.
 -- Assumes nothing.
-use Rattle.std.specs.Prelude.{◌≡◌, ℕ, suc, ◌+◌, ◌-◌, ◌*◌, ◌/◌, ◌%◌, ◌^◌, ◌<◌, ◌≤◌, Bool, true, not, ◌&&◌, eqb, List, [], ◌∷◌, ◌==◌, slice_set, refl}
+use Rattle.std.specs.Prelude.{◌≡◌, ℕ, suc, ◌+◌, ◌-◌, ◌*◌, ◌/◌, ◌%◌, ◌^◌, ◌<◌, ◌≤◌, Bool, true, not, ◌&&◌, List, [], ◌∷◌, slice_set, refl}
 use Rattle.std.proofs.Common.{sym, ◌∙◌, add-zero, div-one, one-mul, add-one, arith, pow_mono, shl_exact}
 use Rattle.std.proofs.Math.Path.{ap, ap₂}
 use Rattle.std.specs.Bool.{beq}

@@ -4,7 +4,6 @@ use mathlib.Core.List.{List}
 use mathlib.Core.Path.{ap₂}
 use Prim.Native.Nat.{ℕ}
 use Rattle.verdict.specs.declared.CheckAnswer.{CheckAnswer}
-use borrow.Author.Rules.{rules}
 use Rattle.judge.proofs.accept.Goals as goal
 
 pub returns : goal.returns

@@ -5,7 +5,6 @@ use Prim.Native.Nat.{ℕ}
 use Rattle.verdict.specs.declared.Verdict.TheVariants.{Accepted}
 use Rattle.verdict.specs.declared.CheckAnswer.TheVariants.{Judged}
 use Rattle.verdict.specs.Counts.{counts}
-use borrow.Author.Rules.{rules}
 use Rattle.judge.proofs.all_rows.Goals as goal
 
 pub returns : goal.returns

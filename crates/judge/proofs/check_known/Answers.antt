@@ -3,7 +3,6 @@
 use mathlib.Core.Path.{sym, ◌∙◌}
 use native.Mathlib.Omega.{arith}
 use Rattle.judge.specs.Laws.Short.{known-short, short-few}
-use borrow.Author.Rules.{rules}
 use Rattle.judge.proofs.check_known.Goals as goal
 
 pub all_rows-requires : goal.all_rows-requires

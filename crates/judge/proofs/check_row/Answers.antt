@@ -3,7 +3,6 @@
 use mathlib.Core.Path.{◌∙◌}
 use native.Mathlib.Omega.{arith}
 use Rattle.judge.specs.Laws.Short.{short-few, row-short}
-use borrow.Author.Rules.{rules}
 use Rattle.judge.proofs.check_row.Goals as goal
 
 pub accept-requires : goal.accept-requires

@@ -2,7 +2,6 @@
 -- below 2^64 comes from the slice.
 -- Assumes nothing.
 use native.Mathlib.Omega.{arith}
-use borrow.Author.Rules.{rules}
 use Rattle.judge.proofs.Laws.FillCheck.{promised-no, promised-yes}
 use Rattle.judge.proofs.fill_and_check.Goals as goal
 

@@ -1,6 +1,5 @@
 -- `judge::judge_words` meets its contract: the cycle's words start at the first.
 -- Assumes nothing.
-use borrow.Author.Rules.{rules}
 use Rattle.judge.specs.Words.{judged_words}
 use Rattle.judge.proofs.judge_words.Goals as goal
 

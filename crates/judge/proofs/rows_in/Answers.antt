@@ -4,7 +4,6 @@ use mathlib.Core.Path.{ap}
 use Prim.Native.Nat.{ℕ, ◌*◌}
 use native.Mathlib.Omega.{arith}
 use Rattle.judge.specs.Laws.Short.{rows-room}
-use borrow.Author.Rules.{rules}
 use Rattle.judge.proofs.rows_in.Goals as goal
 
 pub overflow_mul-result : goal.overflow_mul-result

@@ -1,7 +1,7 @@
 -- The definitions met by examples: a cycle that is judged with yes, and cycles close to it that are judged with no; the same of packed
 -- words; which columns are named; and of every size a batch whose cycles are all judged with yes.
 -- Assumes nothing.
-use Rattle.std.specs.Prelude.{◌≡◌, refl, Bool, true, false, List, [], ◌∷◌, ◌++◌, ℕ, ◌-◌, ◌/◌, ◌%◌, ◌^◌, ◌<◌, get_or, set, replicate}
+use Rattle.std.specs.Prelude.{◌≡◌, refl, Bool, true, false, List, [], ◌∷◌, ◌++◌, ℕ, ◌-◌, ◌/◌, ◌%◌, ◌^◌, ◌<◌, get_or, replicate}
 use Rattle.base.specs.Bits.{val, ◌⊻◌, bit_at}
 use Rattle.base.specs.Lists.{joined, from, from_each}
 use Rattle.field.specs.Gf.{zero}

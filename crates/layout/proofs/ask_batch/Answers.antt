@@ -1,8 +1,6 @@
 -- `layout::ask_batch` meets its contract: each way out peels off the questions that were asked before it.
 -- Assumes nothing.
 use mathlib.Core.Path.{sym, ◌∙◌}
-use borrow.Author.Rules.{rules}
-use borrow.Author.Tests.{not-false}
 use native.Mathlib.Omega.{arith}
 use Rattle.layout.specs.Batch.{batch_asked}
 use Rattle.layout.specs.Laws.Sizes.{allowed-range}

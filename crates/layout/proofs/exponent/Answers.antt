@@ -1,7 +1,6 @@
 -- `layout::exponent` meets its contract: a size is 2 to the number of its trailing zeros, and what is not so made is no size.
 -- Assumes nothing.
 use mathlib.Core.Path.{sym, ◌∙◌}
-use borrow.Author.Rules.{rules}
 use native.Mathlib.Omega.{arith}
 use Rattle.layout.specs.Laws.Exponent.{one_shifted, exponent-found, exponent-missed}
 use Rattle.layout.proofs.exponent.Goals as goal

@@ -1,8 +1,6 @@
 -- `layout::geometry` meets its contract: the one question, and then products of an allowed size.
 -- Assumes nothing.
 use mathlib.Core.Path.{sym, ◌∙◌}
-use borrow.Author.Rules.{rules}
-use borrow.Author.Tests.{not-false}
 use native.Mathlib.Omega.{arith}
 use Rattle.layout.specs.Batch.{geometry_of}
 use Rattle.layout.specs.Laws.Sizes.{allowed-range}

@@ -2,7 +2,6 @@
 -- Assumes nothing.
 use mathlib.Core.Path.{ap, ◌∙◌}
 use Prim.Native.Nat.{ℕ}
-use borrow.Author.Rules.{rules}
 use lib.Dec.{ltb}
 use Rattle.layout.specs.Laws.Exponent.{exponent-allowed}
 use Rattle.layout.proofs.is_allowed.Goals as goal

@@ -4,7 +4,7 @@
 use mathlib.Core.Path.{sym, ap, ap₂, ◌∙◌}
 use Prim.Native.Nat.{ℕ, ◌/◌, ◌^◌}
 use borrow.Author.Rules.{rules}
-use borrow.Author.Tests.{not-false, lt-ltb}
+use borrow.Author.Tests.{lt-ltb}
 use native.Mathlib.Omega.{arith}
 use Rattle.layout.specs.declared.CycleColumnAnswer.TheVariants.{At}
 use Rattle.layout.specs.Batch.{unmapped}

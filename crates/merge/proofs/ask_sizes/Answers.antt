@@ -1,12 +1,8 @@
 -- `merge::ask_sizes` meets its contract: each way out peels off the questions before it.
 -- Assumes nothing.
-use mathlib.Core.Path.{◌≡◌}
-use mathlib.Core.Bool.{true}
 use native.Mathlib.Omega.{arith}
-use borrow.Author.Rules.{rules}
 use borrow.Author.Tests.{le-leb, lt-leb, eq-eqb, ne_eqb}
 use Rattle.base.specs.Laws.WaysOut.{if-passed, if-refused, told}
-use Rattle.layout.specs.Batch.{allowed}
 use Rattle.layout.specs.Laws.Questions.{asking}
 use Rattle.layout.specs.Laws.Sizes.{allowed-range}
 use Rattle.merge.specs.Calls.{sizes_asked}
@@ -14,7 +10,6 @@ use Rattle.merge.proofs.ask_sizes.Goals as goal
 
 -- the tests of numbers, and a question peeled off
 ruleset tests = (if-passed, if-refused, le-leb, lt-leb, eq-eqb, ne_eqb)
-
 
 pub returns-then-not-is_allowed : goal.returns-then-not-is_allowed
 unfolding sizes_asked

@@ -1,10 +1,8 @@
 -- `merge::first_differing` meets its contract: the search from here finds what the whole search does, at every turn.
 -- Assumes nothing.
-use mathlib.Core.Path.{◌≡◌, refl, sym, ◌∙◌}
+use mathlib.Core.Path.{◌≡◌}
 use Prim.Native.Nat.{◌≤◌, ◌-◌}
-use borrow.Author.Rules.{rules}
 use Rattle.base.specs.Tests.{first_from}
-use Rattle.base.specs.Laws.First.{first_stops, first_goes, first_ends}
 use Rattle.merge.specs.Calls.{differs}
 use Rattle.merge.proofs.first_differing.Given as goal
 

@@ -1,6 +1,5 @@
 -- `merge::write_batch` meets its contract: the columns, the public words and the zeros, one behind the other.
 -- Assumes nothing.
-use borrow.Author.Rules.{rules}
 use Rattle.merge.specs.Laws.Pieces.{batch-written}
 use Rattle.merge.proofs.write_batch.Goals as goal
 

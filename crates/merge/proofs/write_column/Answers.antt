@@ -1,7 +1,5 @@
 -- `merge::write_column` meets its contract: a run of the first and one of the second, one behind the other.
 -- Assumes nothing.
-use native.Mathlib.Omega.{arith}
-use borrow.Author.Rules.{rules}
 use Rattle.merge.specs.Laws.Pieces.{column-written}
 use Rattle.merge.proofs.write_column.Goals as goal
 

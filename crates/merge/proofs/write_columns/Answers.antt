@@ -1,12 +1,10 @@
 -- `merge::write_columns` meets its contract: the columns passed are written.
 -- Assumes nothing.
 use mathlib.Core.Path.{◌≡◌, ap, ◌∙◌}
-use Prim.Native.Nat.{ℕ, ◌+◌, ◌*◌, ◌-◌, ◌≤◌}
+use Prim.Native.Nat.{ℕ, ◌+◌, ◌*◌}
 use native.Mathlib.Omega.{arith}
-use Rattle.base.specs.Written.{Written}
 use Rattle.base.specs.Laws.Written.{written_none, written_then, written-to}
 use Rattle.layout.specs.Laws.Mapping.{column_fits}
-use Rattle.merge.specs.Merged.{merged_word}
 use Rattle.merge.proofs.write_columns.Goals as goal
 
 pub loop-column-init : goal.loop-column-init

@@ -1,7 +1,6 @@
 -- `packed::pack` meets its contract: a batch of one cycle has a shape of its own, and a small one needs a small slice.
 -- Assumes nothing.
 use Rattle.packed.specs.Laws.Named.{of_one_lem, one-named}
-use Rattle.std.proofs.Common.{rules}
 use Rattle.packed.proofs.pack.Goals as goal
 
 pub pack_one-requires : goal.pack_one-requires

@@ -1,6 +1,6 @@
 -- `packed::pack_large` meets its contract: acc has a word for each cycle.
 -- Assumes nothing.
-use Rattle.std.proofs.Common.{sym, arith, length-take-le, rules}
+use Rattle.std.proofs.Common.{sym, arith, length-take-le}
 use Rattle.layout.specs.Laws.Sizes.{allowed-range}
 use Rattle.packed.proofs.pack_large.Goals as goal
 

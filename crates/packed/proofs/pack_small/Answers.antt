@@ -1,6 +1,6 @@
 -- `packed::pack_small` meets its contract: acc has a word for each cycle.
 -- Assumes nothing.
-use Rattle.std.proofs.Common.{sym, arith, length-take-le, rules}
+use Rattle.std.proofs.Common.{sym, arith, length-take-le}
 use Rattle.packed.proofs.pack_small.Goals as goal
 
 pub slice_bounds-pack_many-end : goal.slice_bounds-pack_many-end

@@ -1,7 +1,6 @@
 -- `page::lay_row` meets its contract: each way out is the case that its questions pick.
 -- Assumes nothing.
 use mathlib.Core.Path.{sym, ◌∙◌}
-use borrow.Author.Rules.{rules}
 use Rattle.page.specs.Laws.Rows.{row_read_lem, read-few}
 use Rattle.page.specs.Laws.Ways.{laid-unread, laid-15, laid-16, laid-yes}
 use Rattle.page.proofs.lay_row.Goals as goal

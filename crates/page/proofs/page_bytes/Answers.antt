@@ -1,7 +1,6 @@
 -- `page::page_bytes` meets its contract: a row has as many lines as words, its mark's the head.
 -- Assumes nothing.
 use mathlib.Core.Path.{sym, ap, ◌∙◌}
-use borrow.Author.Rules.{rules}
 use Rattle.page.specs.declared.BytesAnswer.TheVariants.{Of}
 use Rattle.page.specs.Pages.{page_bytes, bytes_at, bytes_for}
 use Rattle.page.specs.Laws.Rows.{row_read_lem, read-few}

@@ -1,9 +1,9 @@
 -- Sides over the field, of a cycle whose columns up to the one column are bits: a packed sum is zero exactly when each of its bits is. By
 -- the field's laws alone.
 -- Assumes nothing.
-use Rattle.std.specs.Prelude.{◌≡◌, ◌↔◌, Bool, false, ℕ, zero, ◌+◌, ◌≤◌, ◌<◌}
+use Rattle.std.specs.Prelude.{◌≡◌, ◌↔◌, Bool, false, ℕ, ◌+◌, ◌≤◌, ◌<◌}
 use Rattle.std.proofs.Math.Path.{sym, ap, ap₂}
-use Rattle.std.proofs.Common.{◌∙◌, zero-add, add-zero, arith}
+use Rattle.std.proofs.Common.{◌∙◌, zero-add, arith}
 use Rattle.std.proofs.Math.Bool.{true, and-true}
 use mathlib.Core.List.{List, [], ◌∷◌, map}
 use Rattle.base.specs.Bits.{val, ◌⊻◌}

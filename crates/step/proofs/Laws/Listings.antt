@@ -31,7 +31,7 @@ use Rattle.verdict.specs.Check.{judged, checked}
 use Rattle.verdict.specs.Laws.Verdicts.{EveryRowHolds}
 use Rattle.step.specs.Derived.{derived}
 use Rattle.step.specs.Solve.{Holds}
-use Rattle.step.specs.Demand3.{accepted_verdict, accepts}
+use Rattle.step.specs.Demand3.{accepted_verdict}
 use Rattle.step.proofs.Laws.Solvable.{reads_row, same-lacks}
 use Rattle.step.proofs.Laws.Determining.{known-given}
 use Rattle.step.proofs.Laws.Given.{SameGiven}

@@ -1,7 +1,7 @@
 -- The eight rows of the strict listing say of a cycle's flags what the strict conditions say; and these read given columns alone.
 -- Assumes nothing.
 use Rattle.std.specs.Prelude.{◌≡◌, refl, ◌↔◌, Bool, true, false, not, ◌&&◌, List, [], ◌∷◌, ℕ, ◌+◌, eqb}
-use Rattle.std.proofs.Common.{sym, ap, ap₂, ◌∙◌, arith, eqb-true, eq-eqb}
+use Rattle.std.proofs.Common.{sym, ap, ap₂, ◌∙◌}
 use Rattle.std.proofs.Math.Logic.Iff.{trans as iff_trans}
 use Rattle.std.proofs.lemmas.Bool.{false≢true, not-true}
 use Rattle.base.specs.Lists.{All}
@@ -18,7 +18,7 @@ use Rattle.verdict.specs.OverBits.{sum_bits}
 use Rattle.step.specs.Step.{Step}
 use Rattle.step.specs.Solve.{lacks, Holds}
 use Rattle.step.specs.Derived.{derived}
-use Rattle.step.specs.Strict.{widths, StrictStep, ConditionsOf}
+use Rattle.step.specs.Strict.{widths, ConditionsOf}
 use Rattle.step.proofs.Laws.Widths.{width-clauses}
 use Rattle.step.proofs.Laws.Given.{SameGiven, same_step}
 

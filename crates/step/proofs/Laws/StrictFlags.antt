@@ -7,7 +7,6 @@ use Rattle.std.proofs.Common.{sym, ap, subst, ◌∙◌, arith, eq-eqb}
 use Rattle.std.proofs.lemmas.Bool.{false≢true}
 use Rattle.base.specs.Bits.{digit, val}
 use Rattle.base.specs.Laws.Cases.{of-five, no_true}
-use Rattle.field.specs.declared.Gf128.{Gf128}
 use Rattle.field.specs.Gf.{of_words}
 use Rattle.field.specs.Gf.Laws.{words-zero}
 use Rattle.layout.specs.Columns.{ONE-COL, IS-LOAD, IS-STORE, LD-BYTE, LD-HALF, LD-WORD}

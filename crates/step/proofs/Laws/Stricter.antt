@@ -21,7 +21,7 @@ use Rattle.verdict.specs.Check.{judged, checked, known_checked}
 use Rattle.verdict.proofs.Laws.Agree.{known-agrees}
 use Rattle.verdict.proofs.Laws.Scratch.{any-scratch}
 use Rattle.step.specs.Demand3.{accepts}
-use Rattle.step.specs.Stricter.{by_house, by_strict, FlagsHold, Stricter}
+use Rattle.step.specs.Stricter.{by_house, by_strict, Stricter}
 use Rattle.step.proofs.Laws.Batch.{RowsHold}
 use Rattle.step.proofs.Laws.Listings.{judged-accepts, listed, cycle-rows}
 

@@ -4,7 +4,6 @@
 use mathlib.Core.Path.{sym, ap, ◌∙◌}
 use Rattle.base.specs.Laws.Compared.{other_length, as-table}
 use Rattle.strict.specs.Known.{listing_of}
-use borrow.Author.Rules.{rules}
 use Rattle.strict.proofs.is_known.Goals as goal
 
 pub returns-then-listing-words_in : goal.returns-then-listing-words_in

@@ -1,11 +1,8 @@
 -- `strict::words_in` meets its contract: so many words each listing has.
 -- Assumes nothing.
-use mathlib.Core.List.{List}
-use mathlib.Core.Path.{◌≡◌, sym, ap, ◌∙◌}
-use Prim.Native.Nat.{ℕ}
+use mathlib.Core.Path.{sym, ap, ◌∙◌}
 use lib.ListN.{length}
 use Rattle.strict.specs.Known.{listing_of}
-use borrow.Author.Rules.{rules}
 use Rattle.circuit.specs.Laws.House as house
 use Rattle.strict.proofs.Laws.Strict as strict
 use Rattle.strict.proofs.words_in.Goals as goal

@@ -1,8 +1,6 @@
 -- `text::decimal_digits` meets its contract: the last digit first, and what is left of the number goes before the digits that stand.
 -- Assumes nothing.
-use borrow.Author.Rules.{rules}
-use native.Mathlib.Omega.{arith}
-use Rattle.text.specs.Laws.Decimal.{Begun, begun, begun-room, begun_more, begun_all}
+use Rattle.text.specs.Laws.Decimal.{Begun}
 use Rattle.text.proofs.decimal_digits.Given as goal
 
 abbrev pub invariant-loop-rest : goal.invariant-loop-rest

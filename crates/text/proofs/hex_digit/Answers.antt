@@ -1,6 +1,5 @@
 -- `text::hex_digit` meets its contract: each way out is the case that the test picks.
 -- Assumes nothing.
-use borrow.Author.Rules.{rules}
 use Rattle.base.specs.Laws.WaysOut.{waysOut}
 use Rattle.text.proofs.hex_digit.Goals as goal
 

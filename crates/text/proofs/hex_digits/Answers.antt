@@ -1,8 +1,7 @@
 -- `text::hex_digits` meets its contract: the last digit first, and what is left of the number goes before the digits that stand.
 -- Assumes nothing.
 use borrow.Author.Rules.{rules}
-use native.Mathlib.Omega.{arith}
-use Rattle.text.specs.Laws.Hexadecimal.{Hexed, hexed-none, hexed-more, hexed-all}
+use Rattle.text.specs.Laws.Hexadecimal.{hexed-none, hexed-more, hexed-all}
 use Rattle.text.proofs.hex_digits.Goals as goal
 
 pub loop-i-init : goal.loop-i-init

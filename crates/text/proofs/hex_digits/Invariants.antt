@@ -1,8 +1,6 @@
 -- `text::hex_digits` meets its contract: the last digit first, and what is left of the number goes before the digits that stand.
 -- Assumes nothing.
-use borrow.Author.Rules.{rules}
-use native.Mathlib.Omega.{arith}
-use Rattle.text.specs.Laws.Hexadecimal.{Hexed, hexed-none, hexed-more, hexed-all}
+use Rattle.text.specs.Laws.Hexadecimal.{Hexed}
 use Rattle.text.proofs.hex_digits.Given as goal
 
 abbrev pub invariant-loop-i : goal.invariant-loop-i

@@ -1,6 +1,5 @@
 -- `text::put` meets its contract: left-aligned in no width a text is as it is.
 -- Assumes nothing.
-use borrow.Author.Rules.{rules}
 use Rattle.text.specs.Laws.Left.{left-none}
 use Rattle.text.specs.Laws.Put.{put_as}
 use Rattle.text.proofs.put.Goals as goal

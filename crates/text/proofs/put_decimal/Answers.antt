@@ -1,6 +1,5 @@
 -- `text::put_decimal` meets its contract: the part from the first digit on is the digits.
 -- Assumes nothing.
-use borrow.Author.Rules.{rules}
 use native.Mathlib.Omega.{arith}
 use Rattle.text.specs.Laws.Decimal.{decimal-starts, decimal-bytes, decimal-tail}
 use Rattle.text.specs.Laws.Put.{put_as}

@@ -1,10 +1,9 @@
 -- `text::put_left` meets its contract: after i turns, i bytes of the text stand in `out`.
 -- Assumes nothing.
 use mathlib.Core.Path.{◌≡◌, refl, sym, ap, ◌∙◌}
-use Prim.Native.Nat.{◌≤◌, ◌-◌}
 use native.Mathlib.Omega.{arith}
 use borrow.Author.Rules.{rules}
-use lib.ListN.{length, length-set}
+use lib.ListN.{length-set}
 use lib.Seq.{paste, paste-zero}
 use Rattle.base.specs.Text.{left}
 use Rattle.text.specs.Laws.Left.{left-length, left-more}

@@ -1,14 +1,10 @@
 -- `text::put_left` meets its contract: after i turns, i bytes of the text stand in `out`.
 -- Assumes nothing.
-use mathlib.Core.Path.{◌≡◌, refl, sym, ap, ◌∙◌}
+use mathlib.Core.Path.{◌≡◌}
 use Prim.Native.Nat.{◌≤◌, ◌-◌}
-use native.Mathlib.Omega.{arith}
-use borrow.Author.Rules.{rules}
-use lib.ListN.{length, length-set}
-use lib.Seq.{paste, paste-zero}
+use lib.ListN.{length}
+use lib.Seq.{paste}
 use Rattle.base.specs.Text.{left}
-use Rattle.text.specs.Laws.Left.{left-length, left-more}
-use Rattle.text.specs.Laws.Put.{put_whole, put-not}
 use Rattle.text.proofs.put_left.Given as goal
 
 abbrev pub invariant-loop-i : goal.invariant-loop-i

@@ -3,7 +3,7 @@
 use Rattle.std.specs.Prelude.{◌≡◌, refl, Bool, true, false, cond, List, [], ◌∷◌, ◌++◌, ltb, eqb, drop, set}
 use Rattle.std.proofs.Common.{sym, ap₂, subst, ◌∙◌, pow-suc, arith, ltb-true, ltb-false, lt-ltb, eq-eqb, ne_eqb, length-append, length-set, take-append-drop, take-take, drop_at}
 use Rattle.std.proofs.Math.Path.{ap}
-use Prim.Native.Nat.{ℕ, zero, suc, ◌+◌, ◌-◌, ◌/◌, ◌%◌, ◌^◌, ◌≤◌, ◌<◌}
+use Prim.Native.Nat.{ℕ, zero, suc, ◌-◌, ◌/◌, ◌%◌, ◌^◌, ◌≤◌, ◌<◌}
 use Rattle.std.proofs.Math.ListN.{length, take}
 use Rattle.std.proofs.lemmas.List.{length-replicate, take-set-le, drop-append-le}
 use Rattle.std.proofs.Math.Seq.{take_all}

@@ -1,7 +1,6 @@
 -- `verdict::apply` meets its contract: questions 1 and 2, and then those on the listing.
 -- Assumes nothing.
 use mathlib.Core.Path.{sym, ◌∙◌}
-use borrow.Author.Rules.{rules}
 use Rattle.layout.specs.Laws.Questions.{batch-yes, asking}
 use Rattle.layout.specs.Laws.Sizes.{allowed-range}
 use Rattle.verdict.specs.Apply.{applied}

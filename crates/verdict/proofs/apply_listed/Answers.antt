@@ -2,7 +2,6 @@
 -- sorted.
 -- Assumes nothing.
 use mathlib.Core.Path.{sym, ap, subst, ◌∙◌}
-use borrow.Author.Rules.{rules}
 use Rattle.layout.specs.Laws.Questions.{if_yes_lem, asking}
 use Rattle.verdict.specs.declared.ApplyAnswer.TheVariants.{Refused}
 use Rattle.verdict.specs.Apply.{RowFound, applied_at}

@@ -1,7 +1,6 @@
 -- `verdict::apply_row` meets its contract: each arm is given what was found, and behind a mark that was found the terms are sorted.
 -- Assumes nothing.
 use mathlib.Core.Path.{sym, ap, subst, ◌∙◌}
-use borrow.Author.Rules.{rules}
 use borrow.Author.Tests.{lt-ltb, le-ltb}
 use native.Mathlib.Omega.{arith}
 use Rattle.base.specs.Laws.Tests.{passed, refused}

@@ -1,6 +1,5 @@
 -- `verdict::ask` meets its contract: each way out peels off the questions before it.
 -- Assumes nothing.
-use borrow.Author.Rules.{rules}
 use Rattle.layout.specs.Laws.Questions.{asking}
 use Rattle.verdict.specs.Check.{asked}
 use Rattle.verdict.proofs.ask.Goals as goal

@@ -1,7 +1,6 @@
 -- `verdict::check_known` meets its contract: the questions pick the case, and a listing that is named is in order.
 -- Assumes nothing.
 use mathlib.Core.Path.{sym, ap, ◌∙◌}
-use borrow.Author.Rules.{rules}
 use Rattle.layout.specs.Laws.Questions.{if_yes_lem, batch-yes, asking}
 use Rattle.verdict.specs.declared.CheckAnswer.TheVariants.{Judged, Refused}
 use Rattle.verdict.specs.Check.{known_checked}

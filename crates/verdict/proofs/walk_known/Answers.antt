@@ -1,9 +1,8 @@
 -- `verdict::walk_known` meets its contract: each table is the listing of its name, which is in order, so the loops may start at once.
 -- Assumes nothing.
 use mathlib.Core.List.{List}
-use mathlib.Core.Path.{◌≡◌, sym, ap, ◌∙◌}
+use mathlib.Core.Path.{sym, ap, ◌∙◌}
 use Prim.Native.Nat.{ℕ}
-use borrow.Author.Rules.{rules}
 use Rattle.circuit.specs.Valid.{validated}
 use Rattle.strict.specs.Known.{listing_of}
 use Rattle.strict.specs.declared.Known.TheVariants.{House, Strict}

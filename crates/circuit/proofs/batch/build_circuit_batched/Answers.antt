@@ -3,7 +3,6 @@
 -- Assumes nothing.
 use mathlib.Core.Path.{◌≡◌}
 use Prim.Native.Nat.{ℕ}
-use borrow.Author.Rules.{rules}
 use Rattle.base.specs.Laws.WaysOut.{waysOut, read_as}
 use Rattle.circuit.specs.declared.Word.{Word}
 use Rattle.circuit.specs.declared.batch.BatchWord.{BatchWord}

@@ -1,7 +1,6 @@
 -- `circuit::batch::row_in_cycle` meets its contract: each way out peels off the questions before it, and a batch row is at most 512 * 256.
 -- Assumes nothing.
 use mathlib.Core.Path.{◌≡◌, ap, ◌∙◌}
-use borrow.Author.Rules.{rules}
 use borrow.Author.Tests.{lt-ltb, le-ltb}
 use Prim.Native.Nat.{ℕ, ◌+◌, ◌*◌, ◌<◌}
 use mathlib.Core.Bool.{true}

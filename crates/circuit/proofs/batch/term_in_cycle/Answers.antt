@@ -2,7 +2,6 @@
 -- Assumes nothing.
 use mathlib.Core.Path.{sym, ap, ◌∙◌}
 use Rattle.circuit.specs.Batched.{term_on}
-use borrow.Author.Rules.{rules}
 use Rattle.circuit.proofs.batch.term_in_cycle.Goals as goal
 
 pub returns-in-At : goal.returns-in-At

@@ -2,8 +2,7 @@
 -- division has a divisor, and a batch has at most 512 * 256, so the product fits.
 -- Assumes nothing.
 use mathlib.Core.Path.{sym, ap, ◌∙◌}
-use borrow.Author.Rules.{rules}
-use borrow.Author.Tests.{le-ltb, not-false}
+use borrow.Author.Tests.{le-ltb}
 use Prim.Native.Nat.{ℕ, ◌*◌, ◌/◌, ◌%◌}
 use native.Mathlib.Omega.{arith}
 use Rattle.circuit.specs.declared.batch.CycleRowAnswer.TheVariants.{Refused as NoRow}

@@ -1,6 +1,5 @@
 -- `circuit::questions::after_mark` meets its contract: each way out is the case that its tests pick.
 -- Assumes nothing.
-use borrow.Author.Rules.{rules}
 use Rattle.circuit.specs.Valid.{after_mark}
 use Rattle.base.specs.Laws.WaysOut.{waysOut}
 use Rattle.circuit.proofs.questions.after_mark.Goals as goal

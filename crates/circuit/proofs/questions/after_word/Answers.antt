@@ -1,6 +1,5 @@
 -- `circuit::questions::after_word` meets its contract: question 7 first, and then the case that the kind picks.
 -- Assumes nothing.
-use borrow.Author.Rules.{rules}
 use Rattle.circuit.specs.Valid.{after_word}
 use Rattle.base.specs.Laws.WaysOut.{waysOut}
 use Rattle.circuit.proofs.questions.after_word.Goals as goal

@@ -1,18 +1,9 @@
 -- `circuit::questions::validate` meets its contract: what is left, asked from here, answers as the whole does, at every turn.
 -- Assumes nothing.
-use mathlib.Core.Path.{◌≡◌, refl, sym, ap, ◌∙◌}
-use mathlib.Core.List.{List}
-use Prim.Native.Nat.{ℕ, ◌+◌, ◌≤◌, ◌<◌, ◌-◌}
-use native.Mathlib.Numerals.{add-one}
-use native.Mathlib.Omega.{arith}
-use borrow.Author.Rules.{rules}
-use borrow.Author.Tests.{le-leb}
-use lib.ListN.{length, get_or, drop, drop_of_length-le}
-use lib.Seq.{drop-cons}
-use Rattle.base.specs.Laws.Tests.{passed}
-use Rattle.circuit.specs.declared.questions.Progress.{Progress}
-use Rattle.circuit.specs.Valid.{after_word, onward, valid_from, validated}
-use Rattle.base.specs.Laws.WaysOut.{waysOut}
+use mathlib.Core.Path.{◌≡◌}
+use Prim.Native.Nat.{◌≤◌, ◌-◌}
+use lib.ListN.{length, drop}
+use Rattle.circuit.specs.Valid.{valid_from}
 use Rattle.circuit.proofs.questions.validate.Given as goal
 
 abbrev pub invariant-loop-i : goal.invariant-loop-i

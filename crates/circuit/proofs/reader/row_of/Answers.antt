@@ -1,7 +1,6 @@
 -- `circuit::reader::row_of` meets its contract: each arm is given the answer.
 -- Assumes nothing.
 use mathlib.Core.Path.{sym, ap}
-use borrow.Author.Rules.{rules}
 use Rattle.circuit.specs.Reader.{row_of}
 use Rattle.circuit.proofs.reader.row_of.Goals as goal
 

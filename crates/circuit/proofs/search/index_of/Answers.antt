@@ -1,11 +1,7 @@
 -- `circuit::search::index_of` meets its contract: the count from here is the count asked for, at every turn.
 -- Assumes nothing.
-use mathlib.Core.Path.{◌≡◌}
-use Prim.Native.Nat.{◌+◌, ◌≤◌, ◌-◌}
 use native.Mathlib.Nat.{zero-add}
 use borrow.Author.Rules.{rules}
-use lib.ListN.{length, drop}
-use Rattle.circuit.specs.Found.{until, is_word}
 use Rattle.circuit.specs.Laws.Search.{stops, goes, ends}
 use Rattle.base.specs.Laws.WaysOut.{waysOut}
 use Rattle.circuit.proofs.search.index_of.Goals as goal

@@ -2,12 +2,8 @@
 -- Assumes nothing.
 use mathlib.Core.Path.{◌≡◌}
 use Prim.Native.Nat.{◌+◌, ◌≤◌, ◌-◌}
-use native.Mathlib.Nat.{zero-add}
-use borrow.Author.Rules.{rules}
 use lib.ListN.{length, drop}
 use Rattle.circuit.specs.Found.{until, is_word}
-use Rattle.circuit.specs.Laws.Search.{stops, goes, ends}
-use Rattle.base.specs.Laws.WaysOut.{waysOut}
 use Rattle.circuit.proofs.search.index_of.Given as goal
 
 abbrev pub invariant-loop-i : goal.invariant-loop-i

@@ -1,7 +1,6 @@
 -- `circuit::search::mark_word` meets its contract: each arm is the word of its relation.
 -- Assumes nothing.
 use mathlib.Core.Path.{sym, ap}
-use borrow.Author.Rules.{rules}
 use Rattle.circuit.specs.Words.{mark_word}
 use Rattle.circuit.proofs.search.mark_word.Goals as goal
 

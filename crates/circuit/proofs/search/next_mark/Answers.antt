@@ -1,11 +1,6 @@
 -- `circuit::search::next_mark` meets its contract: the count from here is the count asked for, at every turn.
 -- Assumes nothing.
-use mathlib.Core.Path.{◌≡◌}
-use Prim.Native.Nat.{◌+◌, ◌≤◌, ◌-◌}
 use borrow.Author.Rules.{rules}
-use lib.ListN.{length, drop}
-use Rattle.circuit.specs.Words.{is_mark}
-use Rattle.circuit.specs.Found.{until}
 use Rattle.circuit.specs.Laws.Search.{stops, goes, ends}
 use Rattle.base.specs.Laws.WaysOut.{waysOut}
 use Rattle.circuit.proofs.search.next_mark.Goals as goal

@@ -1,7 +1,6 @@
 -- `circuit::search::part_at` meets its contract: each arm is given the place.
 -- Assumes nothing.
 use mathlib.Core.Path.{sym, ap, ◌∙◌}
-use borrow.Author.Rules.{rules}
 use Rattle.circuit.specs.Found.{part_of}
 use Rattle.circuit.proofs.search.part_at.Goals as goal
 

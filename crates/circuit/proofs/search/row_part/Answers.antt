@@ -1,7 +1,6 @@
 -- `circuit::search::row_part` meets its contract: the part is that of the place found.
 -- Assumes nothing.
 use mathlib.Core.Path.{ap, ◌∙◌}
-use borrow.Author.Rules.{rules}
 use Rattle.circuit.specs.Found.{part_of}
 use Rattle.circuit.proofs.search.row_part.Goals as goal
 

@@ -1,6 +1,5 @@
 -- `circuit::words::read_word` meets its contract: each way out is the case that the kind picks.
 -- Assumes nothing.
-use borrow.Author.Rules.{rules}
 use Rattle.circuit.specs.Words.{word_of}
 use Rattle.base.specs.Laws.WaysOut.{waysOut}
 use Rattle.circuit.proofs.words.read_word.Goals as goal

@@ -1,6 +1,5 @@
 -- Both words of one are known.
 use mathlib.Core.Path.{◌∙◌}
-use borrow.Author.Rules.{rules}
 use Rattle.field.specs.Gf.Laws.{words-one}
 use Rattle.field.proofs.Gf128.one.Goals as goal
 

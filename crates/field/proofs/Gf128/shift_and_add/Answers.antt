@@ -3,10 +3,8 @@ use mathlib.Core.Path.{◌≡◌, sym, ap, ap₂, ◌∙◌}
 use mathlib.Core.Bool.{Bool, cond}
 use Prim.Native.Nat.{ℕ, ◌/◌, ◌<◌}
 use native.Mathlib.Omega.{arith}
-use borrow.Author.Rules.{rules}
-use borrow.Author.Tests.{not-true, not-false}
 use Rattle.field.specs.declared.Gf128.{Gf128}
-use Rattle.field.specs.Gf.{value, Proper, zero, same, added, product}
+use Rattle.field.specs.Gf.{value, zero, same, added, product}
 use Rattle.field.specs.Gf.Tests.{same_true, same_false}
 use Rattle.field.specs.Gf.Element.{value-injective, value-zero}
 use Rattle.field.specs.Gf.Laws.{proper-zero, zero-add, add-zero, add_assoc, mul-zero}

@@ -1,9 +1,8 @@
 -- Where nothing passes bit 127 the shift is the product; else after i turns r is the product with t^i.
 use mathlib.Core.Path.{◌≡◌, sym, ap, ◌∙◌}
-use Prim.Native.Nat.{ℕ, ◌-◌, ◌≤◌}
+use Prim.Native.Nat.{ℕ, ◌-◌}
 use native.Mathlib.Numerals.{add-one}
 use native.Mathlib.Omega.{arith}
-use borrow.Author.Rules.{rules}
 use Rattle.field.specs.declared.Gf128.{Gf128}
 use Rattle.field.specs.Gf.{value, Proper, zero, same, product, power}
 use Rattle.field.specs.Gf.Tests.{same_true}

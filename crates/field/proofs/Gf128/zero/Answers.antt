@@ -1,6 +1,5 @@
 -- Both words of zero are known.
 use mathlib.Core.Path.{◌∙◌}
-use borrow.Author.Rules.{rules}
 use Rattle.field.specs.Gf.Laws.{words-zero}
 use Rattle.field.proofs.Gf128.zero.Goals as goal
 

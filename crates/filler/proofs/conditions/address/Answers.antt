@@ -1,6 +1,5 @@
 -- `filler::conditions::address` meets its contract: just one of load and store is their exclusive or.
 -- Assumes nothing.
-use Rattle.std.proofs.Common.{rules}
 use Rattle.filler.proofs.conditions.address.Goals as goal
 
 pub returns : goal.returns

@@ -1,6 +1,5 @@
 -- `filler::conditions::arithmetic` meets its contract: two sums that wrap are one.
 -- Assumes nothing.
-use Rattle.std.proofs.Common.{rules}
 use Rattle.base.specs.Laws.Words.{wrap-twice}
 use Rattle.filler.proofs.conditions.arithmetic.Goals as goal
 

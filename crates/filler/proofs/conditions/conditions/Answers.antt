@@ -1,6 +1,5 @@
 -- `filler::conditions::conditions` meets its contract: each element is the condition of its place.
 -- Assumes nothing.
-use Rattle.std.proofs.Common.{rules}
 use Rattle.filler.specs.Met.{conditions}
 use Rattle.filler.proofs.conditions.conditions.Goals as goal
 

@@ -1,10 +1,8 @@
 -- `filler::conditions::first_false` meets its contract: the search from here finds what the whole search does, at every turn.
 -- Assumes nothing.
-use Rattle.std.proofs.Common.{◌≡◌, ℕ, ◌-◌, ◌≤◌, Bool, not, List, sym, refl, ap, ◌∙◌, arith, rules, le-ltb, lt-ltb}
-use Rattle.base.specs.Laws.Tests.{passed, refused}
+use Rattle.std.proofs.Common.{◌≡◌, ℕ, ◌-◌, ◌≤◌, Bool, not, List}
 use Rattle.base.specs.Tests.{first_from}
-use Rattle.base.specs.Laws.First.{first_stops, first_goes, first_ends}
-use Rattle.filler.specs.Met.{numbered, named, first_false}
+use Rattle.filler.specs.Met.{numbered}
 use Rattle.filler.proofs.conditions.first_false.Given as goal
 
 abbrev pub fails : List Bool → ℕ → Bool

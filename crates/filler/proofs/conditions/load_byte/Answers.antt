@@ -1,6 +1,5 @@
 -- `filler::conditions::load_byte` meets its contract: both bytes are those that the condition compares.
 -- Assumes nothing.
-use Rattle.std.proofs.Common.{rules}
 use Rattle.filler.proofs.conditions.load_byte.Goals as goal
 
 pub returns : goal.returns

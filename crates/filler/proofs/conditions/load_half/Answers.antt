@@ -1,6 +1,5 @@
 -- `filler::conditions::load_half` meets its contract: the four bytes are those that the condition compares.
 -- Assumes nothing.
-use Rattle.std.proofs.Common.{rules}
 use Rattle.filler.proofs.conditions.load_half.Goals as goal
 
 pub returns : goal.returns

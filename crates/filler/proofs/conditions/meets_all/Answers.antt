@@ -1,6 +1,6 @@
 -- `filler::conditions::meets_all` meets its contract: which listing is named picks the tests, and the ten are among them.
 -- Assumes nothing.
-use Rattle.std.proofs.Common.{ap, arith, rules}
+use Rattle.std.proofs.Common.{ap, arith}
 use Rattle.filler.specs.declared.conditions.StepFlags.{StepFlags}
 use Rattle.filler.proofs.conditions.meets_all.Goals as goal
 

@@ -1,7 +1,6 @@
 -- `filler::conditions::meets_ten` meets its contract: the ten that are read are the ten conditions, in their order.
 -- Assumes nothing.
 use mathlib.Core.Bool.{and-true}
-use Rattle.std.proofs.Common.{rules}
 use Rattle.filler.specs.Met.{conditions}
 use Rattle.filler.proofs.conditions.meets_ten.Goals as goal
 

@@ -1,6 +1,5 @@
 -- `filler::conditions::one_width` meets its contract: each word is the digit of its flag.
 -- Assumes nothing.
-use Rattle.std.proofs.Common.{rules}
 use Rattle.filler.proofs.conditions.one_width.Goals as goal
 
 pub returns : goal.returns

@@ -1,6 +1,6 @@
 -- `filler::conditions::unmet_in` meets its contract: what is read are the words, the flags and the public element of this cycle.
 -- Assumes nothing.
-use Rattle.std.proofs.Common.{ap, ◌∙◌, ap₂, arith, rules}
+use Rattle.std.proofs.Common.{ap, ◌∙◌, ap₂, arith}
 use Rattle.layout.specs.Batch.{column_at}
 use Rattle.verdict.specs.Row.{cycle_of, bits_of}
 use Rattle.filler.specs.declared.conditions.StepWords.{StepWords}

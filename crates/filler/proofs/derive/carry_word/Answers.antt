@@ -1,6 +1,6 @@
 -- `filler::derive::carry_word` meets its contract: two sums that wrap are one, and the rest is its definition.
 -- Assumes nothing.
-use Rattle.std.proofs.Common.{ap, rules}
+use Rattle.std.proofs.Common.{ap}
 use lib.Bits.{bit_xor}
 use Rattle.filler.specs.Derive.{carry_word}
 use Rattle.base.specs.Laws.Words.{wrap-twice}

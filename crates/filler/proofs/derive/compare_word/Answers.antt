@@ -1,6 +1,5 @@
 -- `filler::derive::compare_word` meets its contract: each of the nine bits is what its function gives.
 -- Assumes nothing.
-use Rattle.std.proofs.Common.{rules}
 use Rattle.filler.specs.Laws.Loops.{compare-is}
 use Rattle.filler.proofs.derive.compare_word.Goals as goal
 

@@ -1,6 +1,5 @@
 -- `filler::derive::derive` meets its contract: each word is what its function gives.
 -- Assumes nothing.
-use Rattle.std.proofs.Common.{rules}
 use Rattle.filler.proofs.derive.derive.Goals as goal
 
 pub returns : goal.returns

@@ -1,6 +1,5 @@
 -- `filler::derive::hot_word` meets its contract: nothing passes bit 63.
 -- Assumes nothing.
-use Rattle.std.proofs.Common.{rules}
 use Rattle.filler.specs.Laws.Loops.{hot-is}
 use Rattle.filler.proofs.derive.hot_word.Goals as goal
 

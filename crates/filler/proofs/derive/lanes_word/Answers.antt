@@ -1,7 +1,7 @@
 -- `filler::derive::lanes_word` meets its contract: each field is what its function gives, and eight bits wide, so that the sum holds them
 -- side by side.
 -- Assumes nothing.
-use Rattle.std.proofs.Common.{◌/◌, ◌%◌, ◌^◌, rules}
+use Rattle.std.proofs.Common.{◌/◌, ◌%◌, ◌^◌}
 use Rattle.filler.specs.Laws.Loops.{lanes-are}
 use Rattle.filler.proofs.derive.lanes_word.Goals as goal
 

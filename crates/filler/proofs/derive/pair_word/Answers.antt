@@ -1,6 +1,5 @@
 -- `filler::derive::pair_word` meets its contract: nothing passes bit 63.
 -- Assumes nothing.
-use Rattle.std.proofs.Common.{rules}
 use Rattle.filler.specs.Laws.Loops.{pair_is}
 use Rattle.filler.proofs.derive.pair_word.Goals as goal
 

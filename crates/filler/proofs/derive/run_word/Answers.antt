@@ -1,6 +1,6 @@
 -- `filler::derive::run_word` meets its contract: adding all ones, as a sum that wraps, takes 1 away.
 -- Assumes nothing.
-use Rattle.std.proofs.Common.{ℕ, ◌-◌, ◌^◌, ap, rules}
+use Rattle.std.proofs.Common.{ℕ, ◌-◌, ◌^◌, ap}
 use lib.Bits.{bit_and}
 use Rattle.filler.specs.Derive.{run_word}
 use Rattle.filler.proofs.derive.run_word.Goals as goal

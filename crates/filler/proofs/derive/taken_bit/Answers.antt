@@ -1,6 +1,5 @@
 -- `filler::derive::taken_bit` meets its contract: the bits that are read, and their exclusive or.
 -- Assumes nothing.
-use Rattle.std.proofs.Common.{rules}
 use Rattle.filler.specs.Derive.{taken_bit}
 use Rattle.filler.proofs.derive.taken_bit.Goals as goal
 

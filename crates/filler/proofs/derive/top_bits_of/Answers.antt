@@ -1,6 +1,5 @@
 -- `filler::derive::top_bits_of` meets its contract: each is the bit that is read.
 -- Assumes nothing.
-use Rattle.std.proofs.Common.{rules}
 use Rattle.filler.proofs.derive.top_bits_of.Goals as goal
 
 pub returns : goal.returns

@@ -1,7 +1,7 @@
 -- `filler::fill::ask_columns` meets its contract: each way out peels off the question before it.
 -- Assumes nothing.
 use Rattle.std.proofs.Common.{ℕ, leb, sym, ap, ◌∙◌, ap₂, arith, rules, le-leb}
-use borrow.Author.Tests.{lt-leb, not-true, not-false}
+use borrow.Author.Tests.{lt-leb}
 use Rattle.base.specs.Laws.Tests.{passed, refused}
 use Rattle.field.specs.Gf.{same}
 use Rattle.layout.specs.declared.Asked.TheVariants.{No}

@@ -1,6 +1,6 @@
 -- `filler::fill::fill` meets its contract: the questions pick the case; where they are passed, the cycles are filled.
 -- Assumes nothing.
-use Rattle.std.proofs.Common.{ℕ, List, sym, ap, ◌∙◌, rules}
+use Rattle.std.proofs.Common.{ℕ, List, sym, ap, ◌∙◌}
 use Rattle.layout.specs.declared.Asked.TheVariants.{Yes}
 use Rattle.layout.specs.declared.Asked.{Asked}
 use Rattle.step.specs.Filling.{filled}

@@ -1,6 +1,5 @@
 -- `filler::fill::fill_cycle` meets its contract: the given words are read before any is written, and the blocks are written in three parts.
 -- Assumes nothing.
-use Rattle.std.proofs.Common.{rules}
 use Rattle.filler.specs.Laws.Loops.{cycle-is}
 use Rattle.filler.proofs.fill.fill_cycle.Goals as goal
 

@@ -1,6 +1,6 @@
 -- `filler::fill::fill_cycles` meets its contract: the cycles passed are filled; all of them make the batch that the rows determine.
 -- Assumes nothing.
-use Rattle.std.proofs.Common.{◌≡◌, ℕ, ◌-◌, ◌<◌, ◌≤◌, length, sym, refl, ap, ◌∙◌, add-one, arith, rules}
+use Rattle.std.proofs.Common.{ℕ, sym, refl, ap, ◌∙◌, add-one, arith, rules}
 use Rattle.layout.specs.Laws.Sizes.{allowed-range}
 use Rattle.filler.specs.Words.{fill_cycle, fill_cycles}
 use Rattle.filler.specs.Laws.Cycles.{all-cycles}

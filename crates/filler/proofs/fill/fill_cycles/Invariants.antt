@@ -1,9 +1,7 @@
 -- `filler::fill::fill_cycles` meets its contract: the cycles passed are filled; all of them make the batch that the rows determine.
 -- Assumes nothing.
-use Rattle.std.proofs.Common.{◌≡◌, ℕ, ◌-◌, ◌<◌, ◌≤◌, length, sym, refl, ap, ◌∙◌, add-one, arith, rules}
-use Rattle.layout.specs.Laws.Sizes.{allowed-range}
-use Rattle.filler.specs.Words.{fill_cycle, fill_cycles}
-use Rattle.filler.specs.Laws.Cycles.{all-cycles}
+use Rattle.std.proofs.Common.{◌≡◌, ◌-◌, ◌<◌, ◌≤◌, length}
+use Rattle.filler.specs.Words.{fill_cycles}
 use Rattle.filler.proofs.fill.fill_cycles.Given as goal
 
 abbrev pub invariant-loop-cycle : goal.invariant-loop-cycle

@@ -1,12 +1,11 @@
 -- `filler::fill::first_faulty` meets its contract: the search from here finds what the whole search does, at every turn.
 -- Assumes nothing.
-use Rattle.std.proofs.Common.{◌≡◌, ℕ, ◌-◌, ◌*◌, ◌^◌, ◌<◌, ◌≤◌, sym, refl, ap, ◌∙◌, arith, rules}
+use Rattle.std.proofs.Common.{ℕ, ◌^◌, sym, refl, ap, ◌∙◌, arith, rules}
 use native.Mathlib.Nat.{sub-zero}
-use Rattle.base.specs.Tests.{first_from}
 use Rattle.base.specs.Laws.First.{first_stops, first_goes, first_ends}
 use Rattle.layout.specs.Laws.Sizes.{allowed-range}
 use Rattle.layout.specs.Laws.Exponent.{exponent-power, exponent-below}
-use Rattle.step.specs.Fill.{faulty, first_faulty}
+use Rattle.step.specs.Fill.{faulty}
 use Rattle.filler.proofs.fill.first_faulty.Goals as goal
 
 pub overflow_mul-columns : goal.overflow_mul-columns

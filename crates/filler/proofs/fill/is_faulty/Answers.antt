@@ -1,6 +1,6 @@
 -- `filler::fill::is_faulty` meets its contract: a bit is no fault; of any other column it is told whether it is derived.
 -- Assumes nothing.
-use Rattle.std.proofs.Common.{◌^◌, Bool, not, ◌&&◌, sym, ap, ◌∙◌, ap₂, rules}
+use Rattle.std.proofs.Common.{◌^◌, Bool, not, ◌&&◌, sym, ap, ◌∙◌, ap₂}
 use Rattle.field.specs.Gf.{is_bit}
 use Rattle.step.specs.Derived.{derived_in}
 use Rattle.filler.proofs.fill.is_faulty.Goals as goal

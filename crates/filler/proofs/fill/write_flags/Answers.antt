@@ -1,6 +1,6 @@
 -- `filler::fill::write_flags` meets its contract: one block after the other.
 -- Assumes nothing.
-use Rattle.std.proofs.Common.{ℕ, List, ◌∙◌, ap₂, rules}
+use Rattle.std.proofs.Common.{ℕ, List, ◌∙◌, ap₂}
 use Rattle.layout.specs.Columns.{TAKEN}
 use Rattle.filler.specs.Blocks.{put_word}
 use Rattle.filler.proofs.fill.write_flags.Goals as goal

@@ -1,6 +1,6 @@
 -- `filler::fill::write_low` meets its contract: one block after the other.
 -- Assumes nothing.
-use Rattle.std.proofs.Common.{ap, ◌∙◌, rules}
+use Rattle.std.proofs.Common.{ap, ◌∙◌}
 use Rattle.layout.specs.Columns.{SHIFT-SRC, STORE-OLD, STORE-SRC}
 use Rattle.filler.specs.Blocks.{put_word}
 use Rattle.filler.proofs.fill.write_low.Goals as goal

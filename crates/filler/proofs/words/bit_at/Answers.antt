@@ -1,6 +1,6 @@
 -- `filler::words::bit_at` meets its contract: the low word of the column tells its bit.
 -- Assumes nothing.
-use Rattle.std.proofs.Common.{Bool, sym, ap, ◌∙◌, rules, eq-eqb, ne_eqb}
+use Rattle.std.proofs.Common.{Bool, sym, ap, ◌∙◌, eq-eqb, ne_eqb}
 use Rattle.base.specs.Bits.{digit}
 use Rattle.verdict.specs.Laws.Row.{bit-read}
 use Rattle.filler.proofs.words.bit_at.Goals as goal

@@ -1,6 +1,6 @@
 -- `filler::words::put_bit` meets its contract: the two words of the column become the bit and 0.
 -- Assumes nothing.
-use Rattle.std.proofs.Common.{arith, length-set, rules}
+use Rattle.std.proofs.Common.{arith, length-set}
 use Rattle.filler.specs.Laws.Loops.{put_is}
 use Rattle.filler.proofs.words.put_bit.Goals as goal
 

@@ -1,6 +1,6 @@
 -- `filler::words::put_word` meets its contract: the columns passed hold the bits of w, and `rest` is w without them.
 -- Assumes nothing.
-use Rattle.std.proofs.Common.{◌≡◌, ℕ, ◌-◌, ◌/◌, ◌^◌, ◌≤◌, length, sym, refl, ap, ◌∙◌, div-one, arith, rules}
+use Rattle.std.proofs.Common.{ℕ, sym, refl, ap, ◌∙◌, div-one, arith, rules}
 use Rattle.filler.specs.Blocks.{put_word}
 use Rattle.base.specs.Laws.Words.{half-turn}
 use Rattle.filler.specs.Laws.Loops.{put-turn}

@@ -1,6 +1,6 @@
 -- `filler::words::read_word` meets its contract: from the top bit down, w is the word of the columns passed.
 -- Assumes nothing.
-use Rattle.std.proofs.Common.{◌≡◌, ℕ, ◌+◌, ◌-◌, ◌*◌, ◌≤◌, refl, ap, ◌∙◌, add-zero, arith, rules}
+use Rattle.std.proofs.Common.{◌≡◌, ℕ, ◌+◌, ◌-◌, ◌*◌, refl, ap, ◌∙◌, add-zero, arith, rules}
 use Rattle.base.specs.Bits.{val, word}
 use Rattle.base.specs.Laws.Values.{digit_lt}
 use Rattle.verdict.specs.Row.{bits_of}

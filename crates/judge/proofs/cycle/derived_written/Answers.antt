@@ -3,7 +3,6 @@
 use mathlib.Core.Path.{sym, ap₂, ◌∙◌}
 use mathlib.Core.Bool.{◌&&◌}
 use mathlib.Core.List.{◌++◌}
-use borrow.Author.Rules.{rules}
 use Rattle.filler.specs.Words.{low_blocks, flag_blocks, high_blocks}
 use Rattle.judge.specs.Words.{words_from}
 use Rattle.judge.specs.Laws.WordsWalk.{written-parts}

@@ -1,6 +1,5 @@
 -- `judge::cycle::judge_cycle` meets its contract: the conditions and the derived words are those of the words that were read.
 -- Assumes nothing.
-use borrow.Author.Rules.{rules}
 use Rattle.judge.specs.Laws.WordsSame.{judged-from}
 use Rattle.judge.proofs.cycle.judge_cycle.Goals as goal
 

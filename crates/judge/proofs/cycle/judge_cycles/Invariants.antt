@@ -1,13 +1,8 @@
 -- `judge::cycle::judge_cycles` meets its contract: what is left to judge from here on is what was to judge at all.
 -- Assumes nothing.
-use mathlib.Core.Path.{◌≡◌, sym, ◌∙◌}
+use mathlib.Core.Path.{◌≡◌}
 use Prim.Native.Nat.{◌-◌, ◌≤◌}
-use native.Mathlib.Nat.{sub-zero}
-use native.Mathlib.Omega.{arith}
-use borrow.Author.Rules.{rules}
-use borrow.Author.Tests.{not-true, not-false}
 use Rattle.judge.specs.Words.{all_judged}
-use Rattle.judge.specs.Laws.WordsWalk.{judged-stops, judged-goes, judged-ends}
 use Rattle.judge.proofs.cycle.judge_cycles.Given as goal
 
 abbrev pub invariant-loop-cycle : goal.invariant-loop-cycle

@@ -1,6 +1,5 @@
 -- `judge::cycle::read_given` meets its contract: each field is the word of its place.
 -- Assumes nothing.
-use borrow.Author.Rules.{rules}
 use Rattle.judge.proofs.cycle.read_given.Goals as goal
 
 pub returns : goal.returns

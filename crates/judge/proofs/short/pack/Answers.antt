@@ -3,7 +3,6 @@
 use mathlib.Core.Path.{sym, ap, ◌∙◌}
 use Prim.Native.Nat.{ℕ}
 use Rattle.packed.specs.Packed.{named_called}
-use borrow.Author.Rules.{rules}
 use Rattle.judge.proofs.short.pack.Goals as goal
 
 pub returns-then-cpi-eq1 : goal.returns-then-cpi-eq1

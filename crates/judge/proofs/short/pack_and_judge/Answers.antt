@@ -3,7 +3,6 @@
 use native.Mathlib.Omega.{arith}
 use Rattle.layout.specs.Laws.Sizes.{allowed-range}
 use Rattle.judge.specs.Laws.Short.{of-bits, packed-room, not-of-bits, not-bits, refused-bits}
-use borrow.Author.Rules.{rules}
 use Rattle.judge.proofs.short.pack_and_judge.Goals as goal
 
 pub element-requires : goal.element-requires

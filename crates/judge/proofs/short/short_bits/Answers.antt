@@ -5,7 +5,6 @@ use Prim.Native.Nat.{ℕ, ◌*◌}
 use lib.ListN.{replicate}
 use Rattle.judge.specs.Short.{short_bits}
 use Rattle.judge.specs.Laws.Short.{of_one_lem}
-use borrow.Author.Rules.{rules}
 use Rattle.judge.proofs.short.short_bits.Goals as goal
 
 pub short_one-requires : goal.short_one-requires

@@ -6,7 +6,6 @@ use native.Mathlib.Omega.{arith}
 use lib.Seq.{length-take-le}
 use Rattle.judge.specs.Short.{short_bits}
 use Rattle.judge.specs.Laws.Short.{named_in, zeros-taken, in-range}
-use borrow.Author.Rules.{rules}
 use Rattle.judge.proofs.short.short_large.Goals as goal
 
 pub slice_bounds-out-end : goal.slice_bounds-out-end

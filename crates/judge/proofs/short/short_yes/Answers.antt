@@ -2,8 +2,6 @@
 -- Assumes nothing.
 use mathlib.Core.Path.{sym, ap₂, ◌∙◌}
 use native.Mathlib.Omega.{arith}
-use borrow.Author.Rules.{rules}
-use borrow.Author.Tests.{not-true, not-false}
 use Rattle.field.specs.Gf.{same}
 use Rattle.layout.specs.Laws.Questions.{batch-yes}
 use Rattle.layout.specs.Laws.Sizes.{allowed-range}

@@ -3,12 +3,11 @@
 use mathlib.Core.Path.{◌≡◌, refl, ap, ◌∙◌}
 use mathlib.Core.Bool.{◌&&◌}
 use mathlib.Core.List.{List, []}
-use Prim.Native.Nat.{ℕ, ◌+◌, ◌≤◌, ◌-◌}
+use Prim.Native.Nat.{ℕ, ◌+◌, ◌≤◌}
 use native.Mathlib.Omega.{arith}
-use borrow.Author.Rules.{rules}
 use lib.Dec.{leb, ltb}
-use lib.ListN.{get_or, drop, get_or-map}
-use Rattle.layout.specs.Segments.{Segment, segment, segments, segment_starts, segment_lengths, in_segment, name_in, segment_name, segment_at}
+use lib.ListN.{get_or, get_or-map}
+use Rattle.layout.specs.Segments.{Segment, segment, segments, segment_starts, segment_lengths, in_segment, segment_name, segment_at}
 use Rattle.layout.specs.Laws.Segments.{segments-apart, segments-count, within-at, name-stops, name-goes, name-ends}
 use Rattle.layout.proofs.segments.segment_index.Goals as goal
 

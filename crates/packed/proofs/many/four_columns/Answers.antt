@@ -1,7 +1,7 @@
 -- `packed::many::four_columns` meets its contract: the cycles passed have their four columns below what stood there, and were seen.
 -- Assumes nothing.
-use Rattle.std.proofs.Common.{◌-◌, ◌≤◌, length, arith, rules}
-use Rattle.packed.specs.Laws.Columns.{FourTurn, first-turn, next-turn, last_turn}
+use Rattle.std.proofs.Common.{arith, rules}
+use Rattle.packed.specs.Laws.Columns.{first-turn, next-turn, last_turn}
 use Rattle.packed.proofs.many.four_columns.Goals as goal
 
 pub loop-d-init : goal.loop-d-init

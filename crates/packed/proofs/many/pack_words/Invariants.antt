@@ -1,10 +1,7 @@
 -- `packed::many::pack_words` meets its contract: the words passed stand in their places, of every cycle.
 -- Assumes nothing.
-use Rattle.std.proofs.Common.{◌≡◌, ◌-◌, ◌≤◌, length, ap, ◌∙◌, arith, rules}
-use lib.ListN.{length-replicate}
+use Rattle.std.proofs.Common.{◌≡◌, ◌-◌, ◌≤◌, length}
 use Rattle.packed.specs.Ranges.{Ranged}
-use Rattle.packed.specs.Laws.Ranges.{cleared, no-range, next-range, range-ends}
-use Rattle.base.specs.Laws.WaysOut.{waysOut}
 use Rattle.packed.proofs.many.pack_words.Given as goal
 
 abbrev pub invariant-loop-k : goal.invariant-loop-k

@@ -1,6 +1,6 @@
 -- `packed::many::put_words` meets its contract: the cycles passed have their word, and nothing else moved.
 -- Assumes nothing.
-use Rattle.std.proofs.Common.{◌≡◌, ℕ, ◌-◌, ◌≤◌, length, subst, arith, rules}
+use Rattle.std.proofs.Common.{◌≡◌, ℕ, length, subst, arith, rules}
 use Rattle.packed.specs.Ranges.{Scattered}
 use Rattle.packed.specs.Laws.Ranges.{first-scattered, next-scattered}
 use Rattle.packed.proofs.many.put_words.Goals as goal

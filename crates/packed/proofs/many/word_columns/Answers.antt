@@ -1,7 +1,6 @@
 -- `packed::many::word_columns` meets its contract: after each turn acc has the stack of the columns passed.
 -- Assumes nothing.
 use Rattle.std.proofs.Common.{◌+◌, ◌-◌, ◌*◌, ◌≤◌, arith, rules}
-use Rattle.packed.specs.Columns.{WordTurn}
 use Rattle.packed.specs.Laws.Columns.{column-below, four-fits, first_word, next_word, last_word}
 use Rattle.base.specs.Laws.WaysOut.{waysOut}
 use Rattle.packed.proofs.many.word_columns.Goals as goal

@@ -1,8 +1,7 @@
 -- `packed::one::pack_words` meets its contract: the words passed stand in their places.
 -- Assumes nothing.
-use Rattle.std.proofs.Common.{◌-◌, ◌≤◌, arith, rules}
+use Rattle.std.proofs.Common.{◌-◌, ◌≤◌}
 use Rattle.packed.specs.One.{InRow}
-use Rattle.packed.specs.Laws.One.{no_row, next_row, row_ends}
 use Rattle.packed.proofs.one.pack_words.Given as goal
 
 abbrev pub invariant-loop-k : goal.invariant-loop-k

@@ -1,8 +1,8 @@
 -- `packed::one::seen_at` meets its contract: the or of what was passed tells of each of them.
 -- Assumes nothing.
-use Rattle.std.proofs.Common.{◌-◌, ◌≤◌, arith, rules}
+use Rattle.std.proofs.Common.{arith, rules}
 use Rattle.packed.specs.Laws.Seen.{seen_none}
-use Rattle.packed.specs.Laws.One.{SeenFrom, seen-turn, seen_all}
+use Rattle.packed.specs.Laws.One.{seen-turn, seen_all}
 use Rattle.packed.proofs.one.seen_at.Goals as goal
 
 pub loop-j-init : goal.loop-j-init

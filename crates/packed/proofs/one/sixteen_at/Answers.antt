@@ -1,6 +1,5 @@
 -- `packed::one::sixteen_at` meets its contract: its parts are four sums of four.
 -- Assumes nothing.
-use Rattle.std.proofs.Common.{rules}
 use Rattle.packed.specs.Laws.One.{four-sums}
 use Rattle.packed.proofs.one.sixteen_at.Goals as goal
 

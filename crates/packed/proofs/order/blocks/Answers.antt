@@ -1,7 +1,6 @@
 -- `packed::order::blocks` meets its contract: the blocks go into the order that is asked for.
 -- Assumes nothing.
 use Rattle.packed.specs.Laws.Order.{into-batch, into-cycles}
-use Rattle.std.proofs.Common.{rules}
 use Rattle.packed.proofs.order.blocks.Goals as goal
 
 pub returns-in-Batch : goal.returns-in-Batch

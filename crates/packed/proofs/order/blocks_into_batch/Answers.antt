@@ -1,9 +1,8 @@
 -- `packed::order::blocks_into_batch` meets its contract: the blocks passed stand in batch order.
 -- Assumes nothing.
-use Rattle.std.proofs.Common.{◌+◌, ◌-◌, ◌*◌, ◌≤◌, ◌∙◌, arith, rules}
-use Rattle.packed.specs.Laws.Order.{Going, no_block, block-end, block-length, block_written, written-length, words-got, more-alike, batch-end}
+use Rattle.std.proofs.Common.{◌∙◌, arith, rules}
+use Rattle.packed.specs.Laws.Order.{no_block, block-end, block-length, block_written, written-length, words-got, more-alike, batch-end}
 use Rattle.packed.proofs.order.blocks_into_batch.Goals as goal
-
 
 pub loop-q-init : goal.loop-q-init
 loop-q-init c = no_block _ _ _ _ _ _ _ c.requires (λ k l. omega (arith, c.slice_known-3-1.given k))

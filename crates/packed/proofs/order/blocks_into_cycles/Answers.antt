@@ -1,9 +1,8 @@
 -- `packed::order::blocks_into_cycles` meets its contract: the blocks passed stand in cycle order.
 -- Assumes nothing.
-use Rattle.std.proofs.Common.{◌+◌, ◌-◌, ◌*◌, ◌≤◌, ◌∙◌, arith, rules}
-use Rattle.packed.specs.Laws.Order.{Going, no_block, block-end, block-length, block_read, words-put, more-alike, cycles-end}
+use Rattle.std.proofs.Common.{◌∙◌, arith, rules}
+use Rattle.packed.specs.Laws.Order.{no_block, block-end, block-length, block_read, words-put, more-alike, cycles-end}
 use Rattle.packed.proofs.order.blocks_into_cycles.Goals as goal
-
 
 pub loop-q-init : goal.loop-q-init
 loop-q-init c = no_block _ _ _ _ _ _ _ c.requires (λ k l. omega (arith, c.slice_known-3-1.given k))

@@ -1,7 +1,7 @@
 -- `packed::order::blocks_into_cycles` meets its contract: the blocks passed stand in cycle order.
 -- Assumes nothing.
-use Rattle.std.proofs.Common.{◌+◌, ◌-◌, ◌*◌, ◌≤◌, ◌∙◌, arith, rules}
-use Rattle.packed.specs.Laws.Order.{Going, no_block, block-end, block-length, block_read, words-put, more-alike, cycles-end}
+use Rattle.std.proofs.Common.{◌-◌}
+use Rattle.packed.specs.Laws.Order.{Going}
 use Rattle.packed.proofs.order.blocks_into_cycles.Given as goal
 
 abbrev pub invariant-loop-q : goal.invariant-loop-q

@@ -1,7 +1,6 @@
 -- `packed::order::get_words` meets its contract: the cycles passed have given their word.
 -- Assumes nothing.
-use Rattle.std.proofs.Common.{ℕ, ◌+◌, ◌-◌, ◌*◌, length, get_or, refl, rules}
-use Rattle.base.specs.Written.{Written}
+use Rattle.std.proofs.Common.{refl, rules}
 use Rattle.base.specs.Laws.Written.{written_none, written-more}
 use Rattle.packed.specs.Laws.Order.{gathered}
 use Rattle.packed.proofs.order.get_words.Goals as goal

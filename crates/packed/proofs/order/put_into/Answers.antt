@@ -1,11 +1,10 @@
 -- `packed::order::put_into` meets its contract: one cycle is copied, and more are put block after block by two lent blocks.
 -- Assumes nothing.
-use Rattle.std.proofs.Common.{◌≤◌, sym, ◌∙◌, arith, length-take-le, rules}
+use Rattle.std.proofs.Common.{sym, ◌∙◌, arith, length-take-le}
 use Rattle.base.specs.Laws.Written.{copied-whole}
 use Rattle.layout.specs.Laws.Sizes.{allowed-range}
 use Rattle.packed.specs.Laws.Order.{one-cycle, lent-blocks}
 use Rattle.packed.proofs.order.put_into.Goals as goal
-
 
 pub returns-then-cpi-eq1 : goal.returns-then-cpi-eq1
 returns-then-cpi-eq1 c =

@@ -1,7 +1,6 @@
 -- `packed::storage::ask_order` meets its contract: the size, and then both lengths.
 -- Assumes nothing.
 use Rattle.std.proofs.Common.{sym, ◌∙◌, arith, rules}
-use borrow.Author.Tests.{not-false}
 use Rattle.layout.specs.Laws.Questions.{asking}
 use Rattle.layout.specs.Laws.Sizes.{allowed-range}
 use Rattle.packed.specs.Storage.{order_asked}

@@ -1,6 +1,6 @@
 -- `packed::storage::hand_large` meets its contract: the words made are 32 a cycle.
 -- Assumes nothing.
-use Rattle.std.proofs.Common.{sym, arith, length-take-le, rules}
+use Rattle.std.proofs.Common.{sym, arith, length-take-le}
 use Rattle.layout.specs.Laws.Sizes.{allowed-range}
 use Rattle.packed.proofs.storage.hand_large.Goals as goal
 

@@ -1,7 +1,6 @@
 -- `packed::storage::hand_over` meets its contract: words of bits are handed over in their order, and others are not.
 -- Assumes nothing.
 use Rattle.packed.proofs.Laws.Stored.{row_in, not-handed, handed-batch, handed-cycles}
-use Rattle.std.proofs.Common.{rules}
 use Rattle.packed.proofs.storage.hand_over.Goals as goal
 
 pub pack_words-requires : goal.pack_words-requires

@@ -1,6 +1,6 @@
 -- `packed::storage::hand_small` meets its contract: the words made are 32 a cycle.
 -- Assumes nothing.
-use Rattle.std.proofs.Common.{sym, arith, length-take-le, rules}
+use Rattle.std.proofs.Common.{sym, arith, length-take-le}
 use Rattle.packed.proofs.storage.hand_small.Goals as goal
 
 pub slice_bounds-hand_over-end : goal.slice_bounds-hand_over-end

@@ -3,7 +3,6 @@
 use Rattle.base.specs.Laws.WaysOut.{told}
 use Rattle.layout.specs.Laws.Questions.{called-yes, called-no}
 use Rattle.packed.proofs.Laws.StorageCalls.{order-in}
-use Rattle.std.proofs.Common.{rules}
 use Rattle.packed.proofs.storage.rearrange.Goals as goal
 
 pub put_into-requires : goal.put_into-requires

@@ -3,7 +3,6 @@
 use Rattle.base.specs.Laws.WaysOut.{told}
 use Rattle.packed.specs.Laws.Named.{asked-yes-in}
 use Rattle.packed.proofs.Laws.Stored.{stored-none, stored_no, stored-yes}
-use Rattle.std.proofs.Common.{rules}
 use Rattle.packed.proofs.storage.store.Goals as goal
 
 pub hand-requires : goal.hand-requires

@@ -1,6 +1,6 @@
 -- `packed::storage::unpack` meets its contract: the questions in their order, and then the columns.
 -- Assumes nothing.
-use Rattle.std.proofs.Common.{sym, ◌∙◌, rules}
+use Rattle.std.proofs.Common.{sym, ◌∙◌}
 use Rattle.base.specs.Laws.WaysOut.{told}
 use Rattle.packed.proofs.Laws.Unpack.{unpack-in, unpack-none, unpack-yes}
 use Rattle.packed.proofs.storage.unpack.Goals as goal

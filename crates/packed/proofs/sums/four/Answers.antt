@@ -1,6 +1,6 @@
 -- `packed::sums::four` meets its contract: the three sums are its own.
 -- Assumes nothing.
-use Rattle.std.proofs.Common.{ℕ, ◌%◌, ap, ◌∙◌, rules}
+use Rattle.std.proofs.Common.{ℕ, ◌%◌, ap, ◌∙◌}
 use Rattle.packed.specs.Stacked.{pushed}
 use Rattle.packed.proofs.sums.four.Goals as goal
 

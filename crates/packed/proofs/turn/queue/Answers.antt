@@ -1,8 +1,8 @@
 -- `packed::turn::queue` meets its contract: the pairs passed stand side by side, exchanged.
 -- Assumes nothing.
-use Rattle.std.proofs.Common.{◌-◌, arith, length-set, rules}
+use Rattle.std.proofs.Common.{arith, length-set, rules}
 use Rattle.packed.specs.Turn.{halves, neighbours}
-use Rattle.packed.specs.Laws.Queue.{Pairs, neighbours-apart, first-pairs, next-pairs, stepped}
+use Rattle.packed.specs.Laws.Queue.{neighbours-apart, first-pairs, next-pairs, stepped}
 use Rattle.packed.proofs.turn.queue.Goals as goal
 
 pub loop-k-init : goal.loop-k-init

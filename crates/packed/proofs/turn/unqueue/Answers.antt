@@ -1,8 +1,8 @@
 -- `packed::turn::unqueue` meets its contract: the pairs passed stand in the two halves, exchanged back.
 -- Assumes nothing.
-use Rattle.std.proofs.Common.{◌-◌, arith, length-set, rules}
+use Rattle.std.proofs.Common.{arith, length-set, rules}
 use Rattle.packed.specs.Turn.{halves, neighbours}
-use Rattle.packed.specs.Laws.Queue.{Pairs, halves-apart, first-pairs, next-pairs, undone}
+use Rattle.packed.specs.Laws.Queue.{halves-apart, first-pairs, next-pairs, undone}
 use Rattle.packed.proofs.turn.unqueue.Goals as goal
 
 pub loop-k-init : goal.loop-k-init

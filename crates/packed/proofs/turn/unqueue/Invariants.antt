@@ -1,8 +1,8 @@
 -- `packed::turn::unqueue` meets its contract: the pairs passed stand in the two halves, exchanged back.
 -- Assumes nothing.
-use Rattle.std.proofs.Common.{◌-◌, arith, length-set, rules}
+use Rattle.std.proofs.Common.{◌-◌}
 use Rattle.packed.specs.Turn.{halves, neighbours}
-use Rattle.packed.specs.Laws.Queue.{Pairs, halves-apart, first-pairs, next-pairs, undone}
+use Rattle.packed.specs.Laws.Queue.{Pairs}
 use Rattle.packed.proofs.turn.unqueue.Given as goal
 
 abbrev pub invariant-loop-k : goal.invariant-loop-k

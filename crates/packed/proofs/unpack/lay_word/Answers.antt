@@ -1,7 +1,6 @@
 -- `packed::unpack::lay_word` meets its contract: the bits passed stand as elements, and nothing else moved.
 -- Assumes nothing.
-use Rattle.std.proofs.Common.{◌≡◌, ◌+◌, ◌-◌, ◌*◌, ◌/◌, ◌%◌, ◌^◌, ◌≤◌, arith, length-set, rules}
-use Rattle.packed.specs.Unpack.{Laid}
+use Rattle.std.proofs.Common.{◌+◌, ◌*◌, ◌%◌, arith, length-set, rules}
 use Rattle.packed.proofs.Laws.Unpack.{first_rest, next-rest, no-laid, next-laid, all_laid}
 use Rattle.packed.proofs.unpack.lay_word.Goals as goal
 

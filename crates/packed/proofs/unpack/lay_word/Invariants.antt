@@ -1,8 +1,7 @@
 -- `packed::unpack::lay_word` meets its contract: the bits passed stand as elements, and nothing else moved.
 -- Assumes nothing.
-use Rattle.std.proofs.Common.{◌≡◌, ◌+◌, ◌-◌, ◌*◌, ◌/◌, ◌%◌, ◌^◌, ◌≤◌, arith, length-set, rules}
+use Rattle.std.proofs.Common.{◌≡◌, ◌-◌, ◌/◌, ◌^◌, ◌≤◌}
 use Rattle.packed.specs.Unpack.{Laid}
-use Rattle.packed.proofs.Laws.Unpack.{first_rest, next-rest, no-laid, next-laid, all_laid}
 use Rattle.packed.proofs.unpack.lay_word.Given as goal
 
 abbrev pub invariant-loop-j : goal.invariant-loop-j

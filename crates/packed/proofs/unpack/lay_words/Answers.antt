@@ -1,7 +1,6 @@
 -- `packed::unpack::lay_words` meets its contract: the words passed stand as elements, and nothing behind them moved.
 -- Assumes nothing.
-use Rattle.std.proofs.Common.{◌-◌, ◌≤◌, length, arith, rules}
-use Rattle.packed.specs.Unpack.{Unpacked}
+use Rattle.std.proofs.Common.{arith, rules}
 use Rattle.packed.proofs.Laws.Unpack.{none-unpacked, next-unpacked, all-unpacked}
 use Rattle.packed.proofs.unpack.lay_words.Goals as goal
 

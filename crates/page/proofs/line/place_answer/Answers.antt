@@ -1,7 +1,6 @@
 -- `page::line::place_answer` meets its contract: each arm places the texts of its case, one behind the other.
 -- Assumes nothing.
 use native.Mathlib.Omega.{arith}
-use borrow.Author.Rules.{rules}
 use Rattle.text.specs.Laws.Put.{placed-then}
 use Rattle.page.proofs.line.place_answer.Goals as goal
 

@@ -1,7 +1,6 @@
 -- `page::line::place_counts` meets its contract: five texts, one behind the other, each number behind its name.
 -- Assumes nothing.
 use native.Mathlib.Omega.{arith}
-use borrow.Author.Rules.{rules}
 use Rattle.text.specs.Laws.Put.{placed-then}
 use Rattle.page.proofs.line.place_counts.Goals as goal
 

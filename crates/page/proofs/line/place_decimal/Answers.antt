@@ -1,7 +1,6 @@
 -- `page::line::place_decimal` meets its contract: there is room for as many digits as there are at most.
 -- Assumes nothing.
 use native.Mathlib.Omega.{arith}
-use borrow.Author.Rules.{rules}
 use Rattle.text.specs.Laws.Decimal.{decimal-most}
 use Rattle.text.specs.Laws.Put.{put-fits}
 use Rattle.page.proofs.line.place_decimal.Goals as goal

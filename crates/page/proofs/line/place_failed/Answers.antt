@@ -1,6 +1,5 @@
 -- `page::line::place_failed` meets its contract: each arm places the text of its relation.
 -- Assumes nothing.
-use borrow.Author.Rules.{rules}
 use Rattle.page.proofs.line.place_failed.Goals as goal
 
 pub returns-in-Bin : goal.returns-in-Bin

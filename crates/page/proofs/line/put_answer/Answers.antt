@@ -1,7 +1,6 @@
 -- `page::line::put_answer` meets its contract: what stands before the line's end is the line.
 -- Assumes nothing.
 use mathlib.Core.Path.{sym}
-use borrow.Author.Rules.{rules}
 use lib.Seq.{length-take-le}
 use Rattle.text.specs.Laws.Put.{put_as, placed-inside, placed_first}
 use Rattle.page.proofs.line.put_answer.Goals as goal

@@ -1,7 +1,6 @@
 -- `page::lines::put_exponent` meets its contract: each arm puts the text of its coefficient.
 -- Assumes nothing.
 use mathlib.Core.Path.{subst}
-use borrow.Author.Rules.{rules}
 use native.Mathlib.Omega.{arith}
 use Rattle.page.specs.Promises.{Short}
 use Rattle.page.proofs.lines.put_exponent.Goals as goal

@@ -2,7 +2,6 @@
 -- Assumes nothing.
 use mathlib.Core.Path.{ap, ◌∙◌}
 use mathlib.Core.List.{◌++◌}
-use borrow.Author.Rules.{rules}
 use native.Mathlib.Omega.{arith}
 use Rattle.base.specs.Text.{left}
 use Rattle.text.specs.Digits.{right}
@@ -11,11 +10,10 @@ use Rattle.page.specs.Laws.Lines.{head-pieces}
 use Rattle.page.proofs.lines.put_head.Goals as goal
 
 pub returns : goal.returns
-returns c =
-    (
-      placed-as _ _ _ _ _ _
-          (ap (λ t. left 4 t ++ left 56 (right 7 c.args.row)) c.relation_name-name.ensures ∙ head-pieces c.args.relation
-          c.args.row)
-          (placed-then (omega arith) c.put_in-number.ensures.0 c.put_right.ensures.0),
-      omega arith,
-    )
+returns c = (
+  placed-as _ _ _ _ _ _
+      (ap (λ t. left 4 t ++ left 56 (right 7 c.args.row)) c.relation_name-name.ensures ∙ head-pieces c.args.relation
+      c.args.row)
+      (placed-then (omega arith) c.put_in-number.ensures.0 c.put_right.ensures.0),
+  omega arith,
+)

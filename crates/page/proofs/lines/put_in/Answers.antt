@@ -1,6 +1,5 @@
 -- `page::lines::put_in` meets its contract: there is room for the width, which the text takes.
 -- Assumes nothing.
-use borrow.Author.Rules.{rules}
 use Rattle.text.specs.Laws.Left.{left_in}
 use Rattle.text.specs.Laws.Put.{put-here}
 use Rattle.page.proofs.lines.put_in.Goals as goal

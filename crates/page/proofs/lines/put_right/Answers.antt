@@ -1,7 +1,6 @@
 -- `page::lines::put_right` meets its contract: the last bytes of the digits are the number right-aligned, which has no more of them.
 -- Assumes nothing.
 use mathlib.Core.Path.{ap}
-use borrow.Author.Rules.{rules}
 use native.Mathlib.Omega.{arith}
 use lib.ListN.{length}
 use Rattle.base.specs.Text.{left}

@@ -1,7 +1,6 @@
 -- `page::lines::put_term` meets its contract: the mapping gives the batch column, and refuses no column of a cycle of the batch.
 -- Assumes nothing.
 use mathlib.Core.Path.{sym, ◌∙◌}
-use borrow.Author.Rules.{rules}
 use native.Mathlib.Omega.{arith}
 use Rattle.text.specs.Laws.Put.{placed-as}
 use Rattle.layout.specs.Laws.Mapping.{column-inside}

@@ -1,27 +1,20 @@
 -- `page::lines::put_words` meets its contract: as far as the loop has come, the lines of the words stand one behind the other.
 -- Assumes nothing.
 use mathlib.Core.Path.{◌≡◌, refl}
-use Prim.Native.Nat.{◌+◌, ◌*◌, ◌-◌, ◌≤◌}
-use borrow.Author.Rules.{rules}
 use native.Mathlib.Omega.{arith}
-use lib.ListN.{length, take, drop}
-use Rattle.base.specs.Lists.{joined}
-use Rattle.text.specs.Put.{Placed}
 use Rattle.text.specs.Laws.Put.{placed-then, placed-as, placed-none}
-use Rattle.page.specs.Promises.{word_lines}
 use Rattle.page.specs.Laws.Terms.{no_lines, one-line-more}
 use Rattle.page.proofs.lines.put_words.Goals as goal
 
 pub loop-i-init : goal.loop-i-init
-loop-i-init c =
-    (
-      omega arith,
-      c.requires.1.1.0,
-      refl,
-      omega arith,
-      placed-as _ _ _ _ _ _ (no_lines c.args.cpi c.args.batch.now
-          c.args.cycle c.args.listing.now c.args.start) (placed-none _ _),
-    )
+loop-i-init c = (
+  omega arith,
+  c.requires.1.1.0,
+  refl,
+  omega arith,
+  placed-as _ _ _ _ _ _ (no_lines c.args.cpi c.args.batch.now
+      c.args.cycle c.args.listing.now c.args.start) (placed-none _ _),
+)
 
 pub loop-i-preserved : goal.loop-i-preserved
 loop-i-preserved c =

@@ -1,15 +1,11 @@
 -- `page::lines::put_words` meets its contract: as far as the loop has come, the lines of the words stand one behind the other.
 -- Assumes nothing.
-use mathlib.Core.Path.{◌≡◌, refl}
+use mathlib.Core.Path.{◌≡◌}
 use Prim.Native.Nat.{◌+◌, ◌*◌, ◌-◌, ◌≤◌}
-use borrow.Author.Rules.{rules}
-use native.Mathlib.Omega.{arith}
 use lib.ListN.{length, take, drop}
 use Rattle.base.specs.Lists.{joined}
 use Rattle.text.specs.Put.{Placed}
-use Rattle.text.specs.Laws.Put.{placed-then, placed-as, placed-none}
 use Rattle.page.specs.Promises.{word_lines}
-use Rattle.page.specs.Laws.Terms.{no_lines, one-line-more}
 use Rattle.page.proofs.lines.put_words.Given as goal
 
 abbrev pub invariant-loop-i : goal.invariant-loop-i

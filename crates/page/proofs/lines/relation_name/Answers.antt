@@ -1,6 +1,5 @@
 -- `page::lines::relation_name` meets its contract: each arm gives the text of its case.
 -- Assumes nothing.
-use borrow.Author.Rules.{rules}
 use Rattle.page.proofs.lines.relation_name.Goals as goal
 
 pub returns-in-Bin : goal.returns-in-Bin

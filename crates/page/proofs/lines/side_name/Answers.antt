@@ -1,6 +1,5 @@
 -- `page::lines::side_name` meets its contract: each arm gives the text of its case.
 -- Assumes nothing.
-use borrow.Author.Rules.{rules}
 use Rattle.page.proofs.lines.side_name.Goals as goal
 
 pub returns-in-A : goal.returns-in-A

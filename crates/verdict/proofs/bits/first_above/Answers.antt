@@ -1,12 +1,9 @@
 -- `verdict::bits::first_above` meets its contract: the search from here finds what the whole search does, at every turn.
 -- Assumes nothing.
-use mathlib.Core.Path.{◌≡◌, sym, ap, ◌∙◌}
+use mathlib.Core.Path.{sym, ap, ◌∙◌}
 use mathlib.Core.Bool.{not}
-use Prim.Native.Nat.{◌≤◌, ◌-◌}
 use native.Mathlib.Nat.{sub-zero}
 use borrow.Author.Rules.{rules}
-use Rattle.base.specs.Tests.{first_from}
-use Rattle.verdict.specs.Bits.{above_one}
 use Rattle.base.specs.Laws.First.{first_stops, first_goes, first_ends}
 use Rattle.verdict.proofs.bits.first_above.Goals as goal
 

@@ -2,7 +2,6 @@
 -- Assumes nothing.
 use mathlib.Core.Path.{ap, ◌∙◌}
 use Rattle.field.specs.Gf.{is_bit}
-use borrow.Author.Rules.{rules}
 use Rattle.verdict.proofs.bits.is_bit_at.Goals as goal
 
 pub returns : goal.returns

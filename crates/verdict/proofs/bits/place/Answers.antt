@@ -1,7 +1,6 @@
 -- `verdict::bits::place` meets its contract: each arm is given what the way back answered.
 -- Assumes nothing.
 use mathlib.Core.Path.{sym, ap, ◌∙◌}
-use borrow.Author.Rules.{rules}
 use Rattle.verdict.specs.Bits.{placed}
 use Rattle.verdict.proofs.bits.place.Goals as goal
 

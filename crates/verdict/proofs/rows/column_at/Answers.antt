@@ -1,6 +1,5 @@
 -- `verdict::rows::column_at` meets its contract: each branch is the definition's, and a batch has at most 4096 * 256 columns.
 -- Assumes nothing.
-use borrow.Author.Rules.{rules}
 use borrow.Author.Tests.{lt-ltb, le-ltb}
 use native.Mathlib.Nat.{mul-le-mul, mul-le-mul_right}
 use native.Mathlib.Omega.{arith}

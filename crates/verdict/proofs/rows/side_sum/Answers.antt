@@ -3,20 +3,18 @@
 use mathlib.Core.Path.{◌≡◌, refl, sym, ap, ◌∙◌}
 use mathlib.Core.Bool.{true, false}
 use mathlib.Core.List.{List, [], ◌∷◌}
-use Prim.Native.Nat.{ℕ, ◌+◌, ◌-◌, ◌≤◌, ◌<◌}
+use Prim.Native.Nat.{ℕ, ◌≤◌, ◌<◌}
 use borrow.Author.Rules.{rules}
 use borrow.Author.Tests.{lt-ltb, le-ltb}
 use lib.Dec.{ltb}
-use lib.ListN.{length, drop}
 use Rattle.field.specs.declared.Gf128.{Gf128}
-use Rattle.field.specs.Gf.{zero, added}
+use Rattle.field.specs.Gf.{added}
 use Rattle.field.specs.Gf.Laws.{add_assoc, add-zero, zero-add}
 use Rattle.circuit.specs.declared.Side.{Side}
 use Rattle.circuit.specs.Words.{kind_of, side_kind, past}
 use Rattle.circuit.specs.Rows.{Term}
 use Rattle.circuit.specs.Laws.Search.{stops, goes, ends}
-use Rattle.verdict.specs.Row.{cycle_of, times, sum_of}
-use Rattle.verdict.specs.RowParts.{run_length, run_terms}
+use Rattle.verdict.specs.Row.{times, sum_of}
 use Rattle.verdict.specs.Laws.RowParts.{run-stops, run-goes, run_ends}
 use Rattle.verdict.proofs.rows.side_sum.Goals as goal
 

@@ -1,7 +1,6 @@
 -- `verdict::rows::test_row` meets its contract: the row's sums are balanced where it holds.
 -- Assumes nothing.
 use mathlib.Core.Path.{ap, ◌∙◌}
-use borrow.Author.Rules.{rules}
 use Rattle.field.specs.Gf.{same}
 use Rattle.verdict.specs.Row.{balanced}
 use Rattle.verdict.proofs.rows.test_row.Goals as goal

@@ -1,12 +1,8 @@
 -- `verdict::walk::first_fld` meets its contract: the count from here is the count asked for, at every turn.
 -- Assumes nothing.
-use mathlib.Core.Path.{◌≡◌, sym, ◌∙◌}
-use Prim.Native.Nat.{◌+◌, ◌≤◌, ◌-◌}
+use mathlib.Core.Path.{sym, ◌∙◌}
 use native.Mathlib.Nat.{zero-add}
 use native.Mathlib.Omega.{arith}
-use borrow.Author.Rules.{rules}
-use lib.ListN.{length, drop}
-use Rattle.circuit.specs.Found.{until}
 use Rattle.circuit.specs.Laws.Search.{stops, goes, ends}
 use Rattle.verdict.specs.Order.{is_fld_mark}
 use Rattle.verdict.proofs.walk.first_fld.Goals as goal

@@ -1,7 +1,6 @@
 -- `verdict::walk::one_more` meets its contract: each arm counts in its relation.
 -- Assumes nothing.
 use mathlib.Core.Path.{sym, ap}
-use borrow.Author.Rules.{rules}
 use Rattle.circuit.specs.declared.Relation.{Relation}
 use Rattle.verdict.specs.Counts.{counted}
 use Rattle.verdict.proofs.walk.one_more.Goals as goal

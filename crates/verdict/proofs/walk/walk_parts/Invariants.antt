@@ -1,20 +1,13 @@
 -- `verdict::walk::walk_parts` meets its contract: at each loop the verdict on what is left, with the counts so far, is the whole verdict.
 -- Assumes nothing.
-use mathlib.Core.Path.{◌≡◌, refl, sym, ap, subst, ◌∙◌}
+use mathlib.Core.Path.{◌≡◌}
 use mathlib.Core.Bool.{true}
 use Prim.Native.Nat.{◌+◌, ◌-◌, ◌*◌, ◌≤◌}
-use native.Mathlib.Omega.{arith}
-use borrow.Author.Rules.{rules}
-use borrow.Author.Tests.{not-true, not-false}
 use lib.ListN.{length, drop}
 use Rattle.verdict.specs.Row.{cycle_of}
 use Rattle.verdict.specs.RowParts.{sorted}
-use Rattle.verdict.specs.Laws.RowParts.{at_mark}
-use Rattle.circuit.specs.declared.Relation.{Relation}
-use Rattle.verdict.specs.Counts.{none, counted, rows}
-use Rattle.verdict.specs.Laws.Counts.{rows-counted}
+use Rattle.verdict.specs.Counts.{none, rows}
 use Rattle.verdict.specs.Check.{met, run}
-use Rattle.verdict.specs.Laws.StillToTest.{of_parts, relation-step, relation-end, cycle-step, cycle-end, row-end, row_here, along, run_on, run-stop}
 use Rattle.verdict.specs.StillToTest.{all_parts, left_cycles, left_rows}
 use Rattle.verdict.proofs.walk.walk_parts.Given as goal
 

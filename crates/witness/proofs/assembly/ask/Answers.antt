@@ -1,6 +1,6 @@
 -- `witness::assembly::ask` meets its contract: questions 1 to 3, and then the one on the cycles.
 -- Assumes nothing.
-use Rattle.std.proofs.Common.{sym, ◌∙◌, arith, rules}
+use Rattle.std.proofs.Common.{sym, ◌∙◌, arith}
 use Rattle.layout.specs.Laws.Questions.{asking}
 use Rattle.layout.specs.Laws.Sizes.{allowed-range}
 use Rattle.witness.specs.Assembly.{assembly_asked}

@@ -1,6 +1,6 @@
 -- `witness::assembly::assemble` meets its contract: both halves, one behind the other.
 -- Assumes nothing.
-use Rattle.std.proofs.Common.{◌*◌, arith, rules}
+use Rattle.std.proofs.Common.{◌*◌, arith}
 use Rattle.layout.specs.Batch.{batch_words}
 use Rattle.witness.specs.Assembly.{cycle_word, assembled}
 use Rattle.witness.specs.Laws.Assembled.{half}

@@ -1,11 +1,10 @@
 -- `witness::assembly::write_column` meets its contract: the cycles passed stand side by side.
 -- Assumes nothing.
-use Rattle.std.proofs.Common.{◌≡◌, ℕ, ◌+◌, ◌-◌, ◌*◌, ◌<◌, ◌≤◌, length, get_or, sym, refl, ap, ◌∙◌, add-zero, arith, length-set, rules}
+use Rattle.std.proofs.Common.{◌≡◌, ℕ, ◌+◌, ◌-◌, ◌*◌, ◌<◌, ◌≤◌, length, get_or, sym, refl, ap, ◌∙◌, add-zero, arith, length-set}
 use lib.Arith.{digits_lt}
 use Rattle.layout.specs.Laws.Sizes.{allowed-range}
 use Rattle.witness.specs.Assembly.{cycle_word}
 use Rattle.witness.specs.Laws.Assembled.{word-lent}
-use Rattle.base.specs.Written.{Written}
 use Rattle.base.specs.Laws.Written.{written_none, written-more, written-to}
 use Rattle.witness.proofs.assembly.write_column.Goals as goal
 

@@ -1,12 +1,8 @@
 -- `witness::assembly::write_column` meets its contract: the cycles passed stand side by side.
 -- Assumes nothing.
-use Rattle.std.proofs.Common.{◌≡◌, ℕ, ◌+◌, ◌-◌, ◌*◌, ◌<◌, ◌≤◌, length, get_or, sym, refl, ap, ◌∙◌, add-zero, arith, length-set, rules}
-use lib.Arith.{digits_lt}
-use Rattle.layout.specs.Laws.Sizes.{allowed-range}
+use Rattle.std.proofs.Common.{◌≡◌, ◌+◌, ◌-◌, ◌*◌, ◌≤◌}
 use Rattle.witness.specs.Assembly.{cycle_word}
-use Rattle.witness.specs.Laws.Assembled.{word-lent}
 use Rattle.base.specs.Written.{Written}
-use Rattle.base.specs.Laws.Written.{written_none, written-more, written-to}
 use Rattle.witness.proofs.assembly.write_column.Given as goal
 
 abbrev pub invariant-loop-cycle : goal.invariant-loop-cycle

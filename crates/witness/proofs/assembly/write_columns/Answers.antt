@@ -1,8 +1,6 @@
 -- `witness::assembly::write_columns` meets its contract: the columns passed are written.
 -- Assumes nothing.
-use Rattle.std.proofs.Common.{◌≡◌, ℕ, ◌+◌, ◌-◌, ◌*◌, ◌≤◌, ap, ◌∙◌, arith}
-use Rattle.witness.specs.Assembly.{cycle_word}
-use Rattle.base.specs.Written.{Written}
+use Rattle.std.proofs.Common.{◌≡◌, ℕ, ◌+◌, ◌*◌, ap, ◌∙◌, arith}
 use Rattle.base.specs.Laws.Written.{written_none, written_then, written-to}
 use Rattle.witness.proofs.assembly.write_columns.Goals as goal
 

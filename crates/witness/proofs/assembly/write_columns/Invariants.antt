@@ -1,9 +1,8 @@
 -- `witness::assembly::write_columns` meets its contract: the columns passed are written.
 -- Assumes nothing.
-use Rattle.std.proofs.Common.{◌≡◌, ℕ, ◌+◌, ◌-◌, ◌*◌, ◌≤◌, ap, ◌∙◌, arith}
+use Rattle.std.proofs.Common.{◌-◌, ◌*◌, ◌≤◌}
 use Rattle.witness.specs.Assembly.{cycle_word}
 use Rattle.base.specs.Written.{Written}
-use Rattle.base.specs.Laws.Written.{written_none, written_then, written-to}
 use Rattle.witness.proofs.assembly.write_columns.Given as goal
 
 abbrev pub invariant-loop-column : goal.invariant-loop-column

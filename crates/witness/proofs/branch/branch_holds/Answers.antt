@@ -1,6 +1,6 @@
 -- `witness::branch::branch_holds` meets its contract: each arm is the definition's line of that funct3.
 -- Assumes nothing.
-use Rattle.std.proofs.Common.{not, ap, rules, ne_eqb}
+use Rattle.std.proofs.Common.{not, ap, ne_eqb}
 use Rattle.step.specs.Branch.{branch_holds}
 use Rattle.witness.proofs.branch.branch_holds.Goals as goal
 

@@ -1,6 +1,6 @@
 -- `witness::branch::read_branch` meets its contract: each way out peels off the tests before it.
 -- Assumes nothing.
-use Rattle.std.proofs.Common.{◌≡◌, Bool, true, false, not, ap, rules}
+use Rattle.std.proofs.Common.{◌≡◌, Bool, true, false, not, ap}
 use Rattle.witness.specs.Reading.{reading}
 use Rattle.base.specs.Laws.WaysOut.{waysOut}
 use Rattle.witness.proofs.branch.read_branch.Goals as goal

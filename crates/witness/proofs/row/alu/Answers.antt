@@ -1,6 +1,6 @@
 -- `witness::row::alu` meets its contract: two sums that wrap are one that does.
 -- Assumes nothing.
-use Rattle.std.proofs.Common.{ℕ, ◌+◌, ◌%◌, ◌^◌, Bool, ap, ◌∙◌, ap₂, rules}
+use Rattle.std.proofs.Common.{ℕ, ◌+◌, ◌%◌, ◌^◌, Bool, ap, ◌∙◌, ap₂}
 use Rattle.base.specs.Bits.{digit}
 use Rattle.base.specs.Laws.Tests.{passed, refused}
 use Rattle.base.specs.Laws.Words.{wrap-twice}

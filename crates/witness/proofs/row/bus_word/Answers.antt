@@ -1,6 +1,6 @@
 -- `witness::row::bus_word` meets its contract: the sum is the definition's, and what goes in is cut as it says.
 -- Assumes nothing.
-use Rattle.std.proofs.Common.{ℕ, ◌+◌, ◌*◌, ◌%◌, ◌^◌, ap, rules}
+use Rattle.std.proofs.Common.{ℕ, ◌+◌, ◌*◌, ◌%◌, ◌^◌, ap}
 use Rattle.witness.specs.RowWords.{bus_word}
 use Rattle.witness.proofs.row.bus_word.Goals as goal
 

@@ -1,6 +1,6 @@
 -- `witness::row::flags_word` meets its contract: the sum is the definition's, and what goes in is cut as it says.
 -- Assumes nothing.
-use Rattle.std.proofs.Common.{ℕ, ◌+◌, ◌*◌, ◌%◌, ◌^◌, Bool, [], ◌∷◌, ap, ◌∙◌, ap₂, rules}
+use Rattle.std.proofs.Common.{ℕ, ◌+◌, ◌*◌, ◌%◌, ◌^◌, Bool, [], ◌∷◌, ap, ◌∙◌, ap₂}
 use Rattle.base.specs.Fields.{flags, pack}
 use Rattle.witness.specs.RowWords.{flags_word}
 use Rattle.witness.proofs.row.flags_word.Goals as goal

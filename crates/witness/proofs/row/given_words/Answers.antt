@@ -1,6 +1,6 @@
 -- `witness::row::given_words` meets its contract: each word is what its function gives.
 -- Assumes nothing.
-use Rattle.std.proofs.Common.{ℕ, ◌∙◌, ap₂, rules}
+use Rattle.std.proofs.Common.{ℕ, ◌∙◌, ap₂}
 use Rattle.witness.specs.Table.{second_operand, alu_of}
 use Rattle.witness.specs.RowWords.{given_of}
 use Rattle.witness.proofs.row.given_words.Goals as goal

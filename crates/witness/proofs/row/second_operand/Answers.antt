@@ -1,6 +1,5 @@
 -- `witness::row::second_operand` meets its contract: the test is the definition's.
 -- Assumes nothing.
-use Rattle.std.proofs.Common.{rules}
 use Rattle.base.specs.Laws.WaysOut.{waysOut}
 use Rattle.witness.proofs.row.second_operand.Goals as goal
 

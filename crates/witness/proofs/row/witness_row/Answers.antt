@@ -1,6 +1,6 @@
 -- `witness::row::witness_row` meets its contract: the questions pick the case; where they are passed, the words have the bits of the table.
 -- Assumes nothing.
-use Rattle.std.proofs.Common.{ℕ, List, sym, ap, ◌∙◌, arith, rules}
+use Rattle.std.proofs.Common.{ℕ, List, sym, ap, ◌∙◌, arith}
 use Rattle.layout.specs.declared.Asked.{Asked}
 use Rattle.layout.specs.declared.Asked.TheVariants.{Yes}
 use Rattle.base.specs.Lists.{from}

@@ -1,6 +1,6 @@
 -- `witness::row::word_or_zero` meets its contract: past the words, the list's default.
 -- Assumes nothing.
-use Rattle.std.proofs.Common.{sym, rules}
+use Rattle.std.proofs.Common.{sym}
 use lib.ListN.{get_or-eq_default}
 use Rattle.witness.proofs.row.word_or_zero.Goals as goal
 

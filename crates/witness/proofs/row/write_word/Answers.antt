@@ -1,10 +1,8 @@
 -- `witness::row::write_word` meets its contract: the columns passed hold the bits of w, and `rest` is w without them.
 -- Assumes nothing.
-use Rattle.std.proofs.Common.{◌≡◌, ℕ, ◌+◌, ◌-◌, ◌*◌, ◌/◌, ◌%◌, ◌^◌, ◌≤◌, sym, ap, ◌∙◌, add-zero, div-one, arith, length-set, rules}
+use Rattle.std.proofs.Common.{◌≡◌, ℕ, ◌+◌, ◌*◌, ◌%◌, sym, ap, ◌∙◌, add-zero, div-one, arith, length-set}
 use Rattle.base.specs.Laws.Words.{half-turn}
-use Rattle.base.specs.Written.{Written}
 use Rattle.base.specs.Laws.Written.{written_none, written-more, written-to}
-use Rattle.witness.specs.RowWords.{bits_from}
 use Rattle.witness.specs.Laws.RowWords.{low_word, high_word}
 use Rattle.witness.proofs.row.write_word.Goals as goal
 

@@ -1,7 +1,6 @@
 -- `witness::row::write_words` meets its contract: the words passed are written.
 -- Assumes nothing.
-use Rattle.std.proofs.Common.{◌≡◌, ℕ, ◌+◌, ◌-◌, ◌*◌, ◌≤◌, ap, ◌∙◌, arith, rules}
-use Rattle.base.specs.Written.{Written}
+use Rattle.std.proofs.Common.{◌≡◌, ℕ, ◌+◌, ◌*◌, ap, ◌∙◌, arith}
 use Rattle.base.specs.Laws.Written.{written_none, written_same, written_then, written-to}
 use Rattle.witness.specs.Row.{bit_word}
 use Rattle.witness.specs.RowWords.{bit_in, bits_from}

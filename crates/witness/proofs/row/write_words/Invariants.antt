@@ -1,11 +1,9 @@
 -- `witness::row::write_words` meets its contract: the words passed are written.
 -- Assumes nothing.
-use Rattle.std.proofs.Common.{◌≡◌, ℕ, ◌+◌, ◌-◌, ◌*◌, ◌≤◌, ap, ◌∙◌, arith, rules}
+use Rattle.std.proofs.Common.{◌-◌, ◌*◌, ◌≤◌}
 use Rattle.base.specs.Written.{Written}
-use Rattle.base.specs.Laws.Written.{written_none, written_same, written_then, written-to}
 use Rattle.witness.specs.Row.{bit_word}
-use Rattle.witness.specs.RowWords.{bit_in, bits_from}
-use Rattle.witness.specs.Laws.RowWords.{word-columns}
+use Rattle.witness.specs.RowWords.{bit_in}
 use Rattle.witness.proofs.row.write_words.Given as goal
 
 abbrev pub invariant-loop-j : goal.invariant-loop-j

@@ -1,6 +1,6 @@
 -- `witness::upper::ask_public` meets its contract: each way out peels off the questions before it.
 -- Assumes nothing.
-use Rattle.std.proofs.Common.{sym, ◌∙◌, arith, rules}
+use Rattle.std.proofs.Common.{sym, ◌∙◌, arith}
 use Rattle.layout.specs.Laws.Questions.{batch-yes, asking}
 use Rattle.layout.specs.Laws.Sizes.{allowed-range}
 use Rattle.witness.specs.Upper.{public_asked}
