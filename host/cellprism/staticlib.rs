@@ -1,4 +1,4 @@
-//! Links a library that `rt staticlib` makes. The build scripts here and in host/product share this file.
+//! Links a library that host/staticlib.sh makes. The build scripts here and in host/product share this file.
 
 use std::env;
 use std::path::{Path, PathBuf};
@@ -19,7 +19,7 @@ pub fn link(name: &str) {
     println!("cargo:rustc-link-lib=static={name}");
 }
 
-/// The folder that `CELLPRISM_STATICLIB` names, or else the one that `rt staticlib` writes to. One that
+/// The folder that `CELLPRISM_STATICLIB` names, or else the one that host/staticlib.sh writes to. One that
 /// is not absolute counts from the package's own folder.
 fn folder() -> PathBuf {
     let package = env::var_os("CARGO_MANIFEST_DIR").expect("cargo names the package's folder");
@@ -30,7 +30,7 @@ fn folder() -> PathBuf {
 fn not_there(name: &str, folder: &Path) -> String {
     format!(
         "there is no lib{name}.a in {}\n\
-         `rt staticlib {name}`, run at the root of Cellprism's repository, makes it in target/staticlib;\n\
+         `bash host/staticlib.sh {name}`, run at the root of Cellprism's repository, makes it in target/staticlib;\n\
          CELLPRISM_STATICLIB=FOLDER names another folder, by its absolute path, that has it",
         folder.display()
     )

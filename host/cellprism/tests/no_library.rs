@@ -24,7 +24,7 @@ fn the_build_stops_and_says_what_to_run() {
     let missing = format!("there is no libcellprism.a in {}\n", empty.display());
     for part in [
         missing.as_str(),
-        "rt staticlib cellprism",
+        "bash host/staticlib.sh cellprism",
         "CELLPRISM_STATICLIB",
     ] {
         assert!(said.contains(part), "no {part:?} in: {said}");
