@@ -1,18 +1,13 @@
 -- A batch: its sizes and their exponents, questions 1, 2 and 5, its geometry, and where the columns of its cycles stand (document 01,
 -- "Columns").
 -- Assumes nothing.
-use Rattle.std.specs.Prelude.{Bool, false, cond, ◌&&◌, ◌||◌, List, [], ◌∷◌, ℕ, ◌+◌, ◌-◌, ◌*◌, ◌/◌, ◌%◌, ◌^◌, eqb, leb, ltb}
+use Rattle.std.specs.Prelude.{Bool, false, cond, ◌&&◌, ◌||◌, List, [], ◌∷◌, ℕ, ◌+◌, ◌-◌, ◌*◌, ◌/◌, ◌%◌, ◌^◌, eqb, leb, ltb, Err, Ok}
 use Rattle.base.specs.Tests.{first_from}
-use Rattle.layout.specs.declared.Asked.{Asked}
-use Rattle.layout.specs.declared.Asked.TheVariants.{Yes, No}
-use Rattle.layout.specs.declared.GeometryAnswer.{GeometryAnswer}
-use Rattle.layout.specs.declared.GeometryAnswer.TheVariants.{Of, Refused as NoGeometry}
-use Rattle.layout.specs.declared.ColumnAnswer.{ColumnAnswer}
-use Rattle.layout.specs.declared.ColumnAnswer.TheVariants.{At, Refused as NoColumn}
-use Rattle.layout.specs.declared.CycleColumnAnswer.{CycleColumnAnswer}
-use Rattle.layout.specs.declared.CycleColumnAnswer.TheVariants.{At as In, Refused as NoCycleColumn}
 use Rattle.layout.specs.Columns.{W-COLS, ONE-COL}
-use Rattle.layout.specs.Questions.{no}
+use Rattle.layout.specs.Questions.{no, Answer, Asked}
+use Rattle.layout.specs.declared.questions.Question.TheVariants.{BatchLength, BatchSize, ColumnRange, CycleRange}
+use Rattle.layout.specs.declared.InstanceGeometry.{InstanceGeometry}
+use Rattle.layout.specs.declared.CycleColumn.{CycleColumn}
 
 -- the powers of two from 1 to 256
 abbrev pub sizes : List ℕ
@@ -39,7 +34,7 @@ batch_words cpi = ROW-WORDS * cpi
 
 -- questions 1 and 2, of the number of a batch's words
 unfoldable pub batch_asked : ℕ → ℕ → Asked
-batch_asked cpi words = cond (allowed cpi) (cond (eqb words (batch_words cpi)) Yes (No (no 2 0))) (No (no 1 0))
+batch_asked cpi words = cond (allowed cpi) (cond (eqb words (batch_words cpi)) (Ok tt) (Err (no BatchLength 0))) (Err (no BatchSize 0))
 
 -- question 5, of the number of words of the check's scratch: a multiple of 6, from 6 to 3,072
 abbrev pub SCRATCH-STEP : ℕ
@@ -55,30 +50,33 @@ scratch_fits words = eqb (words % SCRATCH-STEP) 0 && (leb SCRATCH-STEP words && 
 abbrev pub DEFAULT-CPI : ℕ
 DEFAULT-CPI = 1
 
-unfoldable pub geometry_of : ℕ → GeometryAnswer
+unfoldable pub geometry_of : ℕ → Answer InstanceGeometry
 geometry_of cpi =
     cond (allowed cpi)
-    (Of (record { cpi = cpi; w_cols = 2048 * cpi; m = 4096 * cpi; one_col = 2048 * cpi; w128 = 2048 * cpi / 128 }))
-    (NoGeometry (no 1 0))
+    (Ok (record { cpi = cpi; w_cols = 2048 * cpi; m = 4096 * cpi; one_col = 2048 * cpi; w128 = 2048 * cpi / 128 }))
+    (Err (no BatchSize 0))
 
 -- witness column c of cycle d stands at c * cpi + d; a public column after all of these, whatever d
 unfoldable pub column_at : ℕ → ℕ → ℕ → ℕ
 column_at cpi c d = cond (ltb c W-COLS) (c * cpi + d) (W-COLS * cpi + (c - ONE-COL))
 
 -- the batch column of a column below the limit: questions 1, 14, 15
-unfoldable pub mapped : ℕ → ℕ → ℕ → ℕ → ColumnAnswer
+unfoldable pub mapped : ℕ → ℕ → ℕ → ℕ → Answer ℕ
 mapped limit cpi c d =
     cond (allowed cpi)
     (cond (ltb c limit)
-    (cond (ltb d cpi) (At (column_at cpi c d))
-    (NoColumn (no 15 0)))
-    (NoColumn (no 14 0)))
-    (NoColumn (no 1 0))
+    (cond (ltb d cpi) (Ok (column_at cpi c d))
+    (Err (no CycleRange 0)))
+    (Err (no ColumnRange 0)))
+    (Err (no BatchSize 0))
+
+abbrev pub cycle_column : ℕ → ℕ → Answer CycleColumn
+cycle_column column cycle = Ok (record { column = column; cycle = cycle })
 
 -- the column and the cycle of a batch column below one_col: questions 1, 14
-unfoldable pub unmapped : ℕ → ℕ → CycleColumnAnswer
+unfoldable pub unmapped : ℕ → ℕ → Answer CycleColumn
 unmapped cpi b =
     cond (allowed cpi)
-    (cond (ltb b (W-COLS * cpi)) (In (b / cpi) (b % cpi))
-    (NoCycleColumn (no 14 0)))
-    (NoCycleColumn (no 1 0))
+    (cond (ltb b (W-COLS * cpi)) (cycle_column (b / cpi) (b % cpi))
+    (Err (no ColumnRange 0)))
+    (Err (no BatchSize 0))

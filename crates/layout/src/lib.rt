@@ -2,13 +2,14 @@
 #![tactic(auto)]
 
 pub mod columns;
+pub mod questions;
 pub mod segments;
 
 ghost use Rattle.std.specs.Prelude.{◌≡◌, true, ◌<◌, ◌≤◌};
-ghost use Rattle.layout.specs.Questions.{no};
 ghost use Rattle.layout.specs.Batch.{DEFAULT-CPI, allowed, exponent_of, batch_asked, scratch_fits, geometry_of, column_at, mapped, unmapped};
 
 use crate::columns::{M, ONE_COL, W_COLS};
+use crate::questions::{Question, Refusal};
 
 pub const DEFAULT_CPI: usize = 1; // cycles of a batch where nobody chooses
 
@@ -17,21 +18,6 @@ pub const ROW_WORDS: usize = 8192; // words of a row: 4,096 elements, of two wor
 pub const SCRATCH_STEP: usize = 6; // the check's scratch has so many words, or a multiple of it
 
 pub const SCRATCH_MOST: usize = 3072; // and at most so many
-
-// A question of document 01 that was answered with no: its number, and the place (a word's index for 7 to 10, the smallest batch
-// column for 11, else 0).
-#[derive(Clone, Copy)]
-pub struct Refusal {
-    pub number: u8,
-    pub place: usize,
-}
-
-// What a row of questions comes to.
-#[derive(Clone, Copy)]
-pub enum Asked {
-    Yes,
-    No(Refusal),
-}
 
 // The batch that cpi cycles share: its witness columns, all its columns, its one column, and its witness columns in words of 128.
 #[derive(Clone, Copy)]
@@ -43,31 +29,11 @@ pub struct InstanceGeometry {
     pub w128: usize,
 }
 
-#[derive(Clone, Copy)]
-pub enum GeometryAnswer {
-    Of(InstanceGeometry),
-    Refused(Refusal),
-}
-
-// A batch column.
-#[derive(Clone, Copy)]
-pub enum ColumnAnswer {
-    At(usize),
-    Refused(Refusal),
-}
-
 // A column of a cycle.
 #[derive(Clone, Copy)]
-pub enum CycleColumnAnswer {
-    At { column: usize, cycle: usize },
-    Refused(Refusal),
-}
-
-// A no to the question of a number, at no place of its own.
-pub fn refused(number: u8) -> Refusal
-    ensures { result ≡ no number 0 }
-{
-    Refusal { number, place: 0 }
+pub struct CycleColumn {
+    pub column: usize,
+    pub cycle: usize,
 }
 
 // The exponent of a batch size: 2 to it is cpi. A number that is no size gets 9.
@@ -89,16 +55,16 @@ pub fn is_allowed(cpi: usize) -> bool
 }
 
 // Questions 1 and 2, of the number of a batch's words.
-pub fn ask_batch(cpi: usize, words: usize) -> Asked
+pub fn ask_batch(cpi: usize, words: usize) -> Result<(), Refusal>
     ensures { result ≡ batch_asked cpi words }
 {
     if !is_allowed(cpi) {
-        return Asked::No(refused(1));
+        return Err(Refusal::to(Question::BatchSize));
     }
     if words != ROW_WORDS * cpi {
-        return Asked::No(refused(2));
+        return Err(Refusal::to(Question::BatchLength));
     }
-    Asked::Yes
+    Ok(())
 }
 
 // Question 5, of the number of words of the check's scratch: a multiple of 6, from 6 to 3,072.
@@ -114,14 +80,14 @@ pub fn default_cpi() -> usize
     DEFAULT_CPI
 }
 
-pub fn geometry(cpi: usize) -> GeometryAnswer
+pub fn geometry(cpi: usize) -> Result<InstanceGeometry, Refusal>
     ensures { result ≡ geometry_of cpi }
 {
     if !is_allowed(cpi) {
-        return GeometryAnswer::Refused(refused(1));
+        return Err(Refusal::to(Question::BatchSize));
     }
     let w_cols = W_COLS * cpi;
-    GeometryAnswer::Of(InstanceGeometry {
+    Ok(InstanceGeometry {
         cpi,
         w_cols,
         m: M * cpi,
@@ -143,31 +109,31 @@ fn column_at(cpi: usize, column: usize, cycle: usize) -> usize
 }
 
 // Questions 1, 14 and 15 with so many columns to choose from, and the batch column.
-fn map_below(limit: usize, cpi: usize, column: usize, cycle: usize) -> ColumnAnswer
+fn map_below(limit: usize, cpi: usize, column: usize, cycle: usize) -> Result<usize, Refusal>
     requires { limit ≤ 4096 }
     ensures { result ≡ mapped limit cpi column cycle }
 {
     if !is_allowed(cpi) {
-        return ColumnAnswer::Refused(refused(1));
+        return Err(Refusal::to(Question::BatchSize));
     }
     if limit <= column {
-        return ColumnAnswer::Refused(refused(14));
+        return Err(Refusal::to(Question::ColumnRange));
     }
     if cpi <= cycle {
-        return ColumnAnswer::Refused(refused(15));
+        return Err(Refusal::to(Question::CycleRange));
     }
-    ColumnAnswer::At(column_at(cpi, column, cycle))
+    Ok(column_at(cpi, column, cycle))
 }
 
 // The batch column of a witness column.
-pub fn map_col(cpi: usize, column: usize, cycle: usize) -> ColumnAnswer
+pub fn map_col(cpi: usize, column: usize, cycle: usize) -> Result<usize, Refusal>
     ensures { result ≡ mapped 2048 cpi column cycle }
 {
     map_below(W_COLS, cpi, column, cycle)
 }
 
 // The batch column of any column of a cycle's row. The cycle is asked for public columns too, which do not depend on it.
-pub fn map_z_col(cpi: usize, column: usize, cycle: usize) -> ColumnAnswer
+pub fn map_z_col(cpi: usize, column: usize, cycle: usize) -> Result<usize, Refusal>
     ensures { result ≡ mapped 4096 cpi column cycle }
 {
     map_below(M, cpi, column, cycle)
@@ -175,17 +141,17 @@ pub fn map_z_col(cpi: usize, column: usize, cycle: usize) -> ColumnAnswer
 
 // The way back: which column of which cycle stands at a batch column below one_col. Sizes are powers of two, so that a shift is the
 // quotient by cpi, and a mask the remainder.
-pub fn unmap_col(cpi: usize, batch_column: usize) -> CycleColumnAnswer
+pub fn unmap_col(cpi: usize, batch_column: usize) -> Result<CycleColumn, Refusal>
     ensures { result ≡ unmapped cpi batch_column }
 {
     if !is_allowed(cpi) {
-        return CycleColumnAnswer::Refused(refused(1));
+        return Err(Refusal::to(Question::BatchSize));
     }
     if W_COLS * cpi <= batch_column {
-        return CycleColumnAnswer::Refused(refused(14));
+        return Err(Refusal::to(Question::ColumnRange));
     }
-    CycleColumnAnswer::At {
+    Ok(CycleColumn {
         column: batch_column >> exponent(cpi),
         cycle: batch_column & (cpi - 1),
-    }
+    })
 }

@@ -6,8 +6,7 @@ use Prim.Native.Nat.{ℕ, ◌/◌, ◌^◌}
 use borrow.Author.Rules.{rules}
 use borrow.Author.Tests.{lt-ltb}
 use native.Mathlib.Omega.{arith}
-use Rattle.layout.specs.declared.CycleColumnAnswer.TheVariants.{At}
-use Rattle.layout.specs.Batch.{unmapped}
+use Rattle.layout.specs.Batch.{unmapped, cycle_column}
 use Rattle.layout.specs.Laws.Sizes.{allowed-range}
 use Rattle.layout.specs.Laws.Exponent.{exponent-below, shift-and-mask}
 use Rattle.base.specs.Laws.Tests.{passed}
@@ -38,5 +37,5 @@ unfolding unmapped
 returns c =
     let ok = sym c.is_allowed.ensures ∙ c.if-not-is_allowed.false in
     let q = shift-and-mask c.args.cpi c.args.batch_column ok in
-    ap₂ At (ap (λ (k : ℕ). c.args.batch_column / 2 ^ k) c.exponent.ensures ∙ q.0) q.1
+    ap₂ cycle_column (ap (λ (k : ℕ). c.args.batch_column / 2 ^ k) c.exponent.ensures ∙ q.0) q.1
     ∙ passed _ _ _ (lt-ltb _ _ c.if-cpi-batch_column.false) ∙ passed _ _ _ ok
