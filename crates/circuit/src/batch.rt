@@ -6,7 +6,7 @@ ghost use Rattle.circuit.specs.Batched.{row_in, term_on, batched, unmapped_row};
 
 use crate::search::rows_a_cycle;
 use crate::{Coefficient, Relation, Side, Word, words};
-use layout::{ColumnAnswer, Refusal};
+use layout::{Question, Refusal};
 
 // What a word of the listing stands for in a cycle of a batch: the mark of a batch row, or a term on a batch column.
 #[derive(Clone, Copy)]
@@ -20,32 +20,36 @@ pub enum BatchWord {
         coefficient: Coefficient,
         column: usize,
     },
-    Refused(Refusal),
 }
 
 // A row of a cycle.
-#[derive(Clone, Copy)]
-pub enum CycleRowAnswer {
-    At { cycle: usize, row: usize },
-    Refused(Refusal),
+#[derive(Clone, Copy, Debug, PartialEq, Eq)]
+pub struct CycleRow {
+    pub cycle: usize,
+    pub row: usize,
 }
 
 // The batch row of a mark's row.
-fn row_in_cycle(relation: Relation, row: usize, cpi: usize, cycle: usize) -> BatchWord
+fn row_in_cycle(
+    relation: Relation,
+    row: usize,
+    cpi: usize,
+    cycle: usize,
+) -> Result<BatchWord, Refusal>
     requires { allowed cpi ≡ true }
     ensures { result ≡ row_in cpi cycle relation row }
 {
     let rows = rows_a_cycle(relation);
     if rows <= row {
-        return BatchWord::Refused(layout::refused(9));
+        return Err(Question::MarkOrder.refused());
     }
     if cpi <= cycle {
-        return BatchWord::Refused(layout::refused(15));
+        return Err(Question::CycleRange.refused());
     }
-    BatchWord::Row {
+    Ok(BatchWord::Row {
         relation,
         row: rows * cycle + row,
-    }
+    })
 }
 
 // A term on the batch column of its column.
@@ -55,29 +59,26 @@ fn term_in_cycle(
     column: usize,
     cpi: usize,
     cycle: usize,
-) -> BatchWord
+) -> Result<BatchWord, Refusal>
     ensures { result ≡ term_on side coefficient (mapped 4096 cpi column cycle) }
 {
-    let place = layout::map_z_col(cpi, column, cycle);
-    match place {
-        ColumnAnswer::At(c) => BatchWord::Term {
-            side,
-            coefficient,
-            column: c,
-        },
-        ColumnAnswer::Refused(r) => BatchWord::Refused(r),
-    }
+    let place = layout::map_z_col(cpi, column, cycle)?;
+    Ok(BatchWord::Term {
+        side,
+        coefficient,
+        column: place,
+    })
 }
 
 // Total: questions 1, 7, 9 (a fld row above 31) and 15, and then the batch row, or the side, coefficient and batch column.
-pub fn build_circuit_batched(cpi: usize, cycle: usize, w: u32) -> BatchWord
+pub fn build_circuit_batched(cpi: usize, cycle: usize, w: u32) -> Result<BatchWord, Refusal>
     ensures { result ≡ batched cpi cycle w }
 {
     if !layout::is_allowed(cpi) {
-        return BatchWord::Refused(layout::refused(1));
+        return Err(Question::BatchSize.refused());
     }
     if !words::is_clean(w) {
-        return BatchWord::Refused(layout::refused(7));
+        return Err(Question::WordBits.refused());
     }
     let word = words::read_word(w);
     match word {
@@ -91,18 +92,18 @@ pub fn build_circuit_batched(cpi: usize, cycle: usize, w: u32) -> BatchWord
 }
 
 // The way back: which row of which cycle a batch row is. Total: questions 1 and 14 (a batch row that the batch does not have).
-pub fn unmap_row(cpi: usize, relation: Relation, batch_row: usize) -> CycleRowAnswer
+pub fn unmap_row(cpi: usize, relation: Relation, batch_row: usize) -> Result<CycleRow, Refusal>
     ensures { result ≡ unmapped_row cpi relation batch_row }
 {
     if !layout::is_allowed(cpi) {
-        return CycleRowAnswer::Refused(layout::refused(1));
+        return Err(Question::BatchSize.refused());
     }
     let rows = rows_a_cycle(relation);
     if rows * cpi <= batch_row {
-        return CycleRowAnswer::Refused(layout::refused(14));
+        return Err(Question::ColumnRange.refused());
     }
-    CycleRowAnswer::At {
+    Ok(CycleRow {
         cycle: batch_row / rows,
         row: batch_row % rows,
-    }
+    })
 }

@@ -3,14 +3,14 @@ ghost use Rattle.std.specs.Prelude.{◌≡◌};
 ghost use Rattle.circuit.specs.Valid.{after_mark, after_term, after_word, validated};
 
 use crate::words;
-use layout::{Asked, Refusal};
+use layout::{Question, Refusal};
 
 // What is known after some words: low is the least place that the next mark may have in the order of marks, 0 before the first; kind
 // is that of the last term of the row.
 #[derive(Clone, Copy)]
 enum Progress {
     Go { low: u32, kind: u32 },
-    Stop { number: u8 },
+    Stop { question: Question },
 }
 
 // Question 9.
@@ -19,10 +19,14 @@ fn after_mark(low: u32, w: u32) -> Progress
 {
     let order = (w >> 29) % 2 * 512 + w % 512;
     if order < low {
-        return Progress::Stop { number: 9 };
+        return Progress::Stop {
+            question: Question::MarkOrder,
+        };
     }
     if 543 < order {
-        return Progress::Stop { number: 9 };
+        return Progress::Stop {
+            question: Question::MarkOrder,
+        };
     }
     Progress::Go {
         low: order + 1,
@@ -35,10 +39,14 @@ fn after_term(low: u32, kind: u32, w: u32) -> Progress
     ensures { result ≡ after_term low kind w }
 {
     if low == 0 {
-        return Progress::Stop { number: 8 };
+        return Progress::Stop {
+            question: Question::FirstMark,
+        };
     }
     if w >> 30 < kind {
-        return Progress::Stop { number: 10 };
+        return Progress::Stop {
+            question: Question::TermOrder,
+        };
     }
     Progress::Go { low, kind: w >> 30 }
 }
@@ -48,7 +56,9 @@ fn after_word(low: u32, kind: u32, w: u32) -> Progress
     ensures { result ≡ after_word low kind w }
 {
     if !words::is_clean(w) {
-        return Progress::Stop { number: 7 };
+        return Progress::Stop {
+            question: Question::WordBits,
+        };
     }
     if 2 < w >> 30 {
         after_mark(low, w)
@@ -58,11 +68,11 @@ fn after_word(low: u32, kind: u32, w: u32) -> Progress
 }
 
 // Is the listing in order? The first word that is not gives the number and its place.
-pub fn validate(listing: &[u32]) -> Asked
+pub fn validate(listing: &[u32]) -> Result<(), Refusal>
     ensures { result ≡ validated listing.now }
 {
     if 16384 < listing.len() {
-        return Asked::No(layout::refused(6));
+        return Err(Question::ListingLength.refused());
     }
     let mut low: u32 = 0;
     let mut kind: u32 = 0;
@@ -73,11 +83,11 @@ pub fn validate(listing: &[u32]) -> Asked
                 low = l;
                 kind = k;
             }
-            Progress::Stop { number } => {
-                return Asked::No(Refusal { number, place: i });
+            Progress::Stop { question } => {
+                return Err(Refusal { question, place: i });
             }
         }
         i = i + 1;
     }
-    Asked::Yes
+    Ok(())
 }

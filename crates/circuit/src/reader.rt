@@ -2,37 +2,37 @@
 ghost use Rattle.std.specs.Prelude.{◌≡◌};
 ghost use Rattle.circuit.specs.Reader.{admitted, position_after, row_of, OpensTo, AnswersRow, row_read};
 
-use crate::search::Found;
+use crate::search::Place;
 use crate::{Relation, questions, search};
-use layout::Asked;
+use layout::Refusal;
 
 // A listing in order is read, any other is a listing of no words.
-fn admit<'a>(listing: &'a [u32], asked: Asked) -> &'a [u32]
+fn admit<'a>(listing: &'a [u32], asked: Result<(), Refusal>) -> &'a [u32]
     ensures { result.now ≡ admitted asked listing.now }
 {
     match asked {
-        Asked::Yes => listing,
-        Asked::No(_) => &listing[0..0],
+        Ok(()) => listing,
+        Err(_) => &listing[0..0],
     }
 }
 
 // A refusal keeps the position.
-fn position_after(place: Found, position: usize) -> usize
+fn position_after(place: Result<Place, Refusal>, position: usize) -> usize
     ensures { result ≡ position_after place position }
 {
     match place {
-        Found::At { start: _, end } => end,
-        Found::Refused(_) => position,
+        Ok(found) => found.end,
+        Err(_) => position,
     }
 }
 
 // The refusal of the opening comes before that of the search.
-fn row_of(asked: Asked, place: Found) -> Found
+fn row_of(asked: Result<(), Refusal>, place: Result<Place, Refusal>) -> Result<Place, Refusal>
     ensures { result ≡ row_of asked place }
 {
     match asked {
-        Asked::Yes => place,
-        Asked::No(r) => Found::Refused(r),
+        Ok(()) => place,
+        Err(r) => Err(r),
     }
 }
 
@@ -46,14 +46,14 @@ pub struct ListingReader<'a> {
 // What questions 6 to 10 came to, and the reader, which has no words where they refused.
 #[derive(Clone, Copy)]
 pub struct Opened<'a> {
-    pub asked: Asked,
+    pub asked: Result<(), Refusal>,
     pub reader: ListingReader<'a>,
 }
 
 // Where a row stands, or question 13's refusal, and the row's words. An enum can hold no reference, so the part stands beside it.
 #[derive(Clone, Copy)]
 pub struct RowAnswer<'a> {
-    pub place: Found,
+    pub place: Result<Place, Refusal>,
     pub part: &'a [u32],
 }
 
@@ -89,7 +89,7 @@ impl<'a> ListingReader<'a> {
 
 // A listing is opened and asked for one row, on plain words and numbers: what `open` and then `row` come to, by the functions that
 // they stand on, so that whoever calls it needs no proof by hand.
-pub fn read_row(listing: &[u32], relation: Relation, row: usize) -> Found
+pub fn read_row(listing: &[u32], relation: Relation, row: usize) -> Result<Place, Refusal>
     ensures { result ≡ row_read listing.now relation row }
 {
     let asked = questions::validate(listing);

@@ -4,13 +4,13 @@ ghost use Rattle.circuit.specs.Words.{is_mark, mark_word};
 ghost use Rattle.circuit.specs.Found.{until, is_word, rows_a_cycle, found, part_of};
 
 use crate::Relation;
-use layout::Refusal;
+use layout::{Question, Refusal};
 
-// A row of a listing is the words from start on, up to but not including end.
-#[derive(Clone, Copy)]
-pub enum Found {
-    At { start: usize, end: usize },
-    Refused(Refusal),
+// Where a row of a listing stands: its words are those from start on, up to but not including end.
+#[derive(Clone, Copy, Debug, PartialEq, Eq)]
+pub struct Place {
+    pub start: usize,
+    pub end: usize,
 }
 
 // How many rows a cycle has with its padding; so many row numbers a mark can carry.
@@ -63,18 +63,18 @@ fn next_mark(listing: &[u32], i: usize) -> usize
 }
 
 // Where a row starts and ends.
-pub fn find_row(listing: &[u32], relation: Relation, row: usize) -> Found
+pub fn find_row(listing: &[u32], relation: Relation, row: usize) -> Result<Place, Refusal>
     ensures { result ≡ found listing.now relation row }
 {
     if rows_a_cycle(relation) <= row {
-        return Found::Refused(layout::refused(13));
+        return Err(Question::RowSought.refused());
     }
     let start = index_of(listing, mark_word(relation, row as u32));
     if listing.len() <= start {
-        return Found::Refused(layout::refused(13));
+        return Err(Question::RowSought.refused());
     }
     let end = next_mark(listing, start + 1);
-    Found::At { start, end }
+    Ok(Place { start, end })
 }
 
 // The words from start on, up to but not including end, as far as the listing has them.
@@ -94,12 +94,12 @@ fn words_between<'a>(listing: &'a [u32], start: usize, end: usize) -> &'a [u32]
 }
 
 // The words of a place that was found, and none where it was not.
-pub fn part_at<'a>(listing: &'a [u32], place: Found) -> &'a [u32]
+pub fn part_at<'a>(listing: &'a [u32], place: Result<Place, Refusal>) -> &'a [u32]
     ensures { result.now ≡ part_of place listing.now }
 {
     match place {
-        Found::At { start, end } => words_between(listing, start, end),
-        Found::Refused(_) => &listing[0..0],
+        Ok(place) => words_between(listing, place.start, place.end),
+        Err(_) => &listing[0..0],
     }
 }
 

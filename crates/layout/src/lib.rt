@@ -9,7 +9,7 @@ ghost use Rattle.std.specs.Prelude.{◌≡◌, true, ◌<◌, ◌≤◌};
 ghost use Rattle.layout.specs.Batch.{DEFAULT-CPI, allowed, exponent_of, batch_asked, scratch_fits, geometry_of, column_at, mapped, unmapped};
 
 use crate::columns::{M, ONE_COL, W_COLS};
-use crate::questions::{Question, Refusal};
+pub use crate::questions::{Question, Refusal};
 
 pub const DEFAULT_CPI: usize = 1; // cycles of a batch where nobody chooses
 
@@ -59,10 +59,10 @@ pub fn ask_batch(cpi: usize, words: usize) -> Result<(), Refusal>
     ensures { result ≡ batch_asked cpi words }
 {
     if !is_allowed(cpi) {
-        return Err(Refusal::to(Question::BatchSize));
+        return Err(Question::BatchSize.refused());
     }
     if words != ROW_WORDS * cpi {
-        return Err(Refusal::to(Question::BatchLength));
+        return Err(Question::BatchLength.refused());
     }
     Ok(())
 }
@@ -84,7 +84,7 @@ pub fn geometry(cpi: usize) -> Result<InstanceGeometry, Refusal>
     ensures { result ≡ geometry_of cpi }
 {
     if !is_allowed(cpi) {
-        return Err(Refusal::to(Question::BatchSize));
+        return Err(Question::BatchSize.refused());
     }
     let w_cols = W_COLS * cpi;
     Ok(InstanceGeometry {
@@ -114,13 +114,13 @@ fn map_below(limit: usize, cpi: usize, column: usize, cycle: usize) -> Result<us
     ensures { result ≡ mapped limit cpi column cycle }
 {
     if !is_allowed(cpi) {
-        return Err(Refusal::to(Question::BatchSize));
+        return Err(Question::BatchSize.refused());
     }
     if limit <= column {
-        return Err(Refusal::to(Question::ColumnRange));
+        return Err(Question::ColumnRange.refused());
     }
     if cpi <= cycle {
-        return Err(Refusal::to(Question::CycleRange));
+        return Err(Question::CycleRange.refused());
     }
     Ok(column_at(cpi, column, cycle))
 }
@@ -145,10 +145,10 @@ pub fn unmap_col(cpi: usize, batch_column: usize) -> Result<CycleColumn, Refusal
     ensures { result ≡ unmapped cpi batch_column }
 {
     if !is_allowed(cpi) {
-        return Err(Refusal::to(Question::BatchSize));
+        return Err(Question::BatchSize.refused());
     }
     if W_COLS * cpi <= batch_column {
-        return Err(Refusal::to(Question::ColumnRange));
+        return Err(Question::ColumnRange.refused());
     }
     Ok(CycleColumn {
         column: batch_column >> exponent(cpi),

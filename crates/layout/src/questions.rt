@@ -33,6 +33,16 @@ impl Question {
     {
         self as u8
     }
+
+    // A no at no place of its own.
+    pub fn refused(self) -> Refusal
+        ensures { result ≡ no self 0 }
+    {
+        Refusal {
+            question: self,
+            place: 0,
+        }
+    }
 }
 
 // A question that was answered with no, and the place: a word's index for 7 to 10, the smallest batch column for 11, the first public
@@ -41,13 +51,4 @@ impl Question {
 pub struct Refusal {
     pub question: Question,
     pub place: usize,
-}
-
-impl Refusal {
-    // At no place of its own.
-    pub fn to(question: Question) -> Refusal
-        ensures { result ≡ no question 0 }
-    {
-        Refusal { question, place: 0 }
-    }
 }

@@ -1,16 +1,16 @@
 -- The laws of a search through words, for any test, and where a row that is found lies.
 -- Assumes nothing.
-use Rattle.std.specs.Prelude.{◌≡◌, refl, Bool, true, false, cond, List, [], ◌∷◌, ℕ, zero, suc, ◌+◌, ◌<◌, ◌≤◌, ltb, length, get_or, drop}
+use Rattle.std.specs.Prelude.{◌≡◌, refl, Bool, true, false, cond, List, [], ◌∷◌, ℕ, zero, suc, ◌+◌, ◌<◌, ◌≤◌, ltb, length, get_or, drop, Ok, Err}
 use Rattle.std.proofs.Common.{sym, ◌∙◌, add-zero, not-suc-le-zero, le_of_suc-le-suc, add-one, arith, ltb-true, lt-ltb, drop_of_length-le, length-drop}
 use Rattle.std.proofs.Math.Seq.{drop-cons}
 use Rattle.base.specs.Laws.Tests.{passed}
-use Rattle.layout.specs.Questions.{no}
+use Rattle.layout.specs.Questions.{no, Answer}
 use Rattle.circuit.specs.declared.Relation.{Relation}
 use Rattle.circuit.specs.declared.Relation.TheVariants.{Bin, Fld}
-use Rattle.circuit.specs.declared.search.Found.{Found}
-use Rattle.circuit.specs.declared.search.Found.TheVariants.{At, Refused}
 use Rattle.circuit.specs.Words.{is_mark, mark_word}
-use Rattle.circuit.specs.Found.{rows_a_cycle, until, is_word, row_at, found}
+use Rattle.circuit.specs.Found.{rows_a_cycle, until, is_word, row_at, found, place_at}
+use Rattle.layout.specs.declared.questions.Question.TheVariants.{RowSought}
+use Rattle.circuit.specs.declared.search.Place.{Place}
 
 pub rows-at-most : (rel : Relation) → rows_a_cycle rel ≤ 512
 rows-at-most Bin = omega arith
@@ -67,16 +67,16 @@ until-past p (w ∷ ws) k h = by-test (p w) refl k (until-past p ws) h
     by-test false e (suc i) later l = later i (le_of_suc-le-suc l)
 
 -- what is found has its mark, and ends in the listing
-abbrev pub Within : List ℕ → Found → Type 0
-Within ws (At start end) = (start < end) × (end ≤ length ws)
-Within ws (Refused r) = Unit
+abbrev pub Within : List ℕ → Answer Place → Type 0
+Within ws (Ok p) = (p.start < p.end) × (p.end ≤ length ws)
+Within ws (Err r) = Unit
 
 row_within : (ws : List ℕ) (start : ℕ) → Within ws (row_at ws start)
 unfolding row_at
 row_within ws start = by-test (ltb start (length ws)) refl
   where
     by-test : (b : Bool) → ltb start (length ws) ≡ b
-        → Within ws (cond b (At start (start + 1 + until is_mark (drop (start + 1) ws))) (Refused (no 13 0)))
+        → Within ws (cond b (place_at start (start + 1 + until is_mark (drop (start + 1) ws))) (Err (no RowSought 0)))
     by-test true e =
         (omega arith, omega (arith, ltb-true start (length ws) e, until-le is_mark (drop (start + 1) ws), length-drop (start + 1) ws))
     by-test false e = tt
@@ -85,14 +85,14 @@ pub found_within : (ws : List ℕ) (rel : Relation) (n : ℕ) → Within ws (fou
 unfolding found
 found_within ws rel n = by-test (ltb n (rows_a_cycle rel))
   where
-    by-test : (b : Bool) → Within ws (cond b (row_at ws (until (is_word (mark_word rel n)) ws)) (Refused (no 13 0)))
+    by-test : (b : Bool) → Within ws (cond b (row_at ws (until (is_word (mark_word rel n)) ws)) (Err (no RowSought 0)))
     by-test true = row_within ws (until (is_word (mark_word rel n)) ws)
     by-test false = tt
 
 -- a row that its relation can have is found at the first word that is its mark's, where there is one
 pub found_first : (ws : List ℕ) (rel : Relation) (n : ℕ) → n < rows_a_cycle rel → until (is_word (mark_word rel n)) ws < length ws
     → found ws rel n
-    ≡ At (until (is_word (mark_word rel n)) ws)
+    ≡ place_at (until (is_word (mark_word rel n)) ws)
     (until (is_word (mark_word rel n)) ws + 1 + until is_mark (drop (until (is_word (mark_word rel n)) ws + 1) ws))
 unfolding found row_at
 found_first ws rel n few inside =

@@ -1,21 +1,22 @@
 -- What a listing that passes questions 6 to 10 shows of its first word, and of the rest.
 -- Assumes nothing.
-use Rattle.std.specs.Prelude.{◌≡◌, refl, ◌⊎◌, Bool, true, false, cond, List, ◌∷◌, ℕ, suc, ◌+◌, ◌%◌, ◌^◌, ◌≤◌, ◌<◌, eqb, ltb}
+use Rattle.std.specs.Prelude.{◌≡◌, refl, ◌⊎◌, Bool, true, false, cond, List, ◌∷◌, ℕ, suc, ◌+◌, ◌%◌, ◌^◌, ◌≤◌, ◌<◌, eqb, ltb, Ok}
 use Rattle.std.proofs.Common.{inl, inr, arith, ltb-false}
 use Rattle.std.proofs.lemmas.Bool.{eqb-false}
-use Rattle.layout.specs.declared.Asked.TheVariants.{Yes}
 use Rattle.circuit.specs.declared.Relation.TheVariants.{Bin, Fld}
 use Rattle.circuit.specs.declared.questions.Progress.{Progress}
 use Rattle.circuit.specs.declared.questions.Progress.TheVariants.{Go, Stop}
+use Rattle.layout.specs.declared.questions.Question.{Question}
+use Rattle.layout.specs.declared.questions.Question.TheVariants.{WordBits, FirstMark, MarkOrder, TermOrder}
 use Rattle.circuit.specs.Words.{kind_of, is_mark, flag_of, clean_of, relation_of}
 use Rattle.circuit.specs.Found.{rows_a_cycle}
 use Rattle.circuit.specs.Valid.{order_of, after_mark, after_term, after_word, onward, valid_from}
 
-never : (n l k : ℕ) → Stop n ≡ Go l k → ⊥
+never : (n : Question) (l k : ℕ) → Stop n ≡ Go l k → ⊥
 never n l k e = let z : ◌≡◌ {A = ℕ} 0 1 = cc in omega arith
 
 -- a question passed on the way to Go
-module _ (b : Bool) (x : Progress) (n : ℕ) {l k : ℕ} where
+module _ (b : Bool) (x : Progress) (n : Question) {l k : ℕ} where
   go-yes : cond b x (Stop n) ≡ Go l k → (b ≡ true) × (x ≡ Go l k)
   go-yes e = by-test b refl e
     where
@@ -50,7 +51,7 @@ pub record TermPassed (low kind w l k : ℕ) : Type 0 where
 mark-passed : (low w l k : ℕ) → is_mark w ≡ true → clean_of w ≡ true → after_mark low w ≡ Go l k → MarkPassed low w l k
 unfolding after_mark
 mark-passed low w l k m c e =
-    let a = go-no (ltb (order_of w) low) _ 9 e in let b = go-no (ltb 543 (order_of w)) _ 9 a.1 in
+    let a = go-no (ltb (order_of w) low) _ MarkOrder e in let b = go-no (ltb 543 (order_of w)) _ MarkOrder a.1 in
     record {
       mark = m;
       clean = c;
@@ -63,12 +64,12 @@ mark-passed low w l k m c e =
 term-passed : (low kind w l k : ℕ) → is_mark w ≡ false → after_term low kind w ≡ Go l k → TermPassed low kind w l k
 unfolding after_term
 term-passed low kind w l k m e =
-    let a = go-no (eqb low 0) _ 8 e in let b = go-no (ltb (kind_of w) kind) _ 10 a.1 in
+    let a = go-no (eqb low 0) _ FirstMark e in let b = go-no (ltb (kind_of w) kind) _ TermOrder a.1 in
     record { term = m; headed = eqb-false low 0 a.0; same = cc b.1; order = ltb-false (kind_of w) kind b.0; kind-is = cc b.1 }
 
 word-passed : (low kind w l k : ℕ) → after_word low kind w ≡ Go l k → MarkPassed low w l k ⊎ TermPassed low kind w l k
 unfolding after_word
-word-passed low kind w l k e = let c = go-yes (clean_of w) _ 7 e in by-test c.0 (is_mark w) refl c.1
+word-passed low kind w l k e = let c = go-yes (clean_of w) _ WordBits e in by-test c.0 (is_mark w) refl c.1
   where
     by-test : clean_of w ≡ true → (m : Bool) → is_mark w ≡ m → cond m (after_mark low w) (after_term low kind w) ≡ Go l k
         → MarkPassed low w l k ⊎ TermPassed low kind w l k
@@ -88,12 +89,12 @@ pub record Passed (i low kind w : ℕ) (ws : List ℕ) : Type 0 where
   pub l : ℕ
   pub k : ℕ
   pub first : MarkPassed low w l k ⊎ TermPassed low kind w l k
-  pub rest : valid_from (suc i) l k ws ≡ Yes
+  pub rest : valid_from (suc i) l k ws ≡ Ok tt
 
-pub passed-word : (i low kind w : ℕ) (ws : List ℕ) → valid_from i low kind (w ∷ ws) ≡ Yes → Passed i low kind w ws
+pub passed-word : (i low kind w : ℕ) (ws : List ℕ) → valid_from i low kind (w ∷ ws) ≡ Ok tt → Passed i low kind w ws
 unfolding valid_from
 passed-word i low kind w ws e = by-progress (after_word low kind w) refl e
   where
-    by-progress : (s : Progress) → after_word low kind w ≡ s → onward s i (λ l k. valid_from (suc i) l k ws) ≡ Yes → Passed i low kind w ws
+    by-progress : (s : Progress) → after_word low kind w ≡ s → onward s i (λ l k. valid_from (suc i) l k ws) ≡ Ok tt → Passed i low kind w ws
     by-progress (Go l k) a f = record { l = l; k = k; first = word-passed low kind w l k a; rest = f }
     by-progress (Stop n) a f = let z : ◌≡◌ {A = ℕ} 0 1 = cc in absurd (omega arith)

@@ -6,11 +6,12 @@ use Prim.Native.Nat.{ℕ}
 use Rattle.base.specs.Laws.WaysOut.{waysOut, read_as}
 use Rattle.circuit.specs.declared.Word.{Word}
 use Rattle.circuit.specs.declared.batch.BatchWord.{BatchWord}
+use Rattle.layout.specs.Questions.{Answer}
 use Rattle.circuit.specs.Batched.{in_cycle, batched}
 use Rattle.circuit.proofs.batch.build_circuit_batched.Goals as goal
 
 -- what the word was read as
-word_read : (cpi d : ℕ) (told w arm : Word) (x : BatchWord) → told ≡ w → told ≡ arm → x ≡ in_cycle cpi d arm → x ≡ in_cycle cpi d w
+word_read : (cpi d : ℕ) (told w arm : Word) (x : Answer BatchWord) → told ≡ w → told ≡ arm → x ≡ in_cycle cpi d arm → x ≡ in_cycle cpi d w
 word_read cpi d = read_as (in_cycle cpi d)
 
 pub returns-then-not-is_allowed : goal.returns-then-not-is_allowed

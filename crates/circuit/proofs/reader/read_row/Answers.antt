@@ -4,17 +4,17 @@
 use mathlib.Core.Path.{◌≡◌, refl}
 use mathlib.Core.List.{List}
 use Prim.Native.Nat.{ℕ}
-use Rattle.layout.specs.declared.Asked.{Asked}
-use Rattle.layout.specs.declared.Asked.TheVariants.{Yes, No}
 use Rattle.circuit.specs.Found.{found}
 use Rattle.circuit.specs.Reader.{admitted, row_of}
 use Rattle.circuit.specs.declared.Relation.{Relation}
 use Rattle.circuit.proofs.reader.read_row.Goals as goal
+use Rattle.std.specs.Prelude.{Err, Ok}
+use Rattle.layout.specs.Questions.{Asked}
 
 -- where the questions refuse, the search does not matter
 same_row : (ws : List ℕ) (rel : Relation) (n : ℕ) (a : Asked) → row_of a (found (admitted a ws) rel n) ≡ row_of a (found ws rel n)
-same_row ws rel n Yes = refl
-same_row ws rel n (No r) = refl
+same_row ws rel n (Ok _) = refl
+same_row ws rel n (Err r) = refl
 
 pub returns : goal.returns
 returns c =

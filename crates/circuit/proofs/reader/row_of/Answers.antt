@@ -4,5 +4,5 @@ use mathlib.Core.Path.{sym, ap}
 use Rattle.circuit.specs.Reader.{row_of}
 use Rattle.circuit.proofs.reader.row_of.Goals as goal
 
-pub returns-in-No : goal.returns-in-No
-returns-in-No c = ap (λ a. row_of a c.args.place) (sym c.in-No.is)
+pub returns-in-Err : goal.returns-in-Err
+returns-in-Err c = ap (λ a. row_of a c.args.place) (sym c.in-Err.is)

@@ -4,6 +4,6 @@ use mathlib.Core.Path.{sym, ap, ◌∙◌}
 use Rattle.circuit.specs.Found.{part_of}
 use Rattle.circuit.proofs.search.part_at.Goals as goal
 
-pub returns-in-At : goal.returns-in-At
-returns-in-At c = c.words_between.ensures
-    ∙ ap (λ f. part_of f c.args.listing.now) (sym c.in-At.is)
+pub returns-in-Ok : goal.returns-in-Ok
+returns-in-Ok c = c.words_between.ensures
+    ∙ ap (λ f. part_of f c.args.listing.now) (sym c.in-Ok.is)
