@@ -1,18 +1,16 @@
 // What is printed of the bytes that were read. A row of the house listing takes five pages at most: 18,000 bytes, and 300 line ends.
-ghost use Rattle.std.specs.Prelude.{◌≡◌, ◌++◌, ◌+◌, ◌*◌, ◌/◌, ◌≤◌, length};
+ghost use Rattle.std.specs.Prelude.{◌≡◌, ◌++◌, ◌+◌, ◌*◌, ◌/◌, ◌≤◌, length, Err, Ok};
 ghost use Rattle.base.specs.Text.{ascii};
 ghost use Rattle.text.specs.Put.{Placed};
 ghost use Rattle.layout.specs.Batch.{ROW-WORDS};
 ghost use Rattle.circuit.specs.Circuit.{circuit_words};
-ghost use Rattle.page.specs.declared.BytesAnswer.TheVariants.{Of};
 ghost use Rattle.page.specs.Pages.{bytes_for};
 ghost use Rattle.cellprism.specs.Bytes.{row_of};
 ghost use Rattle.benchpage.specs.Printed.{with_line_ends, pages_of, printed};
 ghost use Rattle.benchpage.specs.Promises.{FivePages};
 
 use circuit::Relation;
-use page::BytesAnswer;
-use verdict::{CheckAnswer, Verdict};
+use verdict::Verdict;
 
 // A line and its end at an index; gives the index behind them.
 fn put_line(out: &mut [u8], at: usize, line: &[u8]) -> usize
@@ -48,7 +46,7 @@ fn put_laid(
     row: usize,
 ) -> usize
     requires { (61 * (length pages.old / 60) ≤ length out.old) × ((listing.now ≡ circuit_words)
-        × ((length words.now ≡ ROW-WORDS) × (bytes_for circuit_words relation row ≡ Of (length pages.old)))) }
+        × ((length words.now ≡ ROW-WORDS) × (bytes_for circuit_words relation row ≡ Ok (length pages.old)))) }
     ensures { Placed 0 (with_line_ends (pages_of words.now relation row)) out.old out.new result }
 {
     page::lay_out(1, listing, words, relation, row, 0, pages);
@@ -69,8 +67,8 @@ fn put_pages(
 {
     let listing = circuit::build_circuit();
     match page::page_bytes(&listing, relation, row) {
-        BytesAnswer::Refused(_) => 0,
-        BytesAnswer::Of(n) => put_laid(out, &mut pages[..n], &listing, words, relation, row),
+        Err(_) => 0,
+        Ok(n) => put_laid(out, &mut pages[..n], &listing, words, relation, row),
     }
 }
 
@@ -92,8 +90,8 @@ pub fn show(bytes: &[u8], out: &mut [u8]) -> usize
 {
     let answer = cellprism::check_bytes(bytes);
     match answer {
-        CheckAnswer::Refused(_) => page::line::put_answer(out, 0, answer),
-        CheckAnswer::Judged(v) => match v {
+        Err(_) => page::line::put_answer(out, 0, answer),
+        Ok(v) => match v {
             Verdict::Accepted { counts: _ } => page::line::put_answer(out, 0, answer),
             Verdict::Failed {
                 relation,

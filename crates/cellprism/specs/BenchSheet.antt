@@ -1,12 +1,9 @@
 -- The bench sheet of document 01: P1 to P12 as one table, `BenchSheet`. Each line speaks of an operation as it is called, questions and
 -- scratch included, by the definition that its contract cites. The table's one theorem is `bench-sheet` of Laws/BenchSheet.
 -- Assumes nothing.
-use Rattle.std.specs.Prelude.{◌≡◌, true, cond, List, [], ◌∷◌, ◌++◌, ℕ, ◌+◌, ◌-◌, ◌^◌, length, take, get_or, replicate}
+use Rattle.std.specs.Prelude.{◌≡◌, true, cond, List, [], ◌∷◌, ◌++◌, ℕ, ◌+◌, ◌-◌, ◌^◌, length, take, get_or, replicate, Err, Ok}
 use Rattle.base.specs.Lists.{from}
 use Rattle.field.specs.Gf.{product, element, of_words, zero, one}
-use Rattle.layout.specs.declared.Asked.TheVariants.{Yes}
-use Rattle.layout.specs.declared.GeometryAnswer.TheVariants.{Of, Refused}
-use Rattle.layout.specs.declared.ColumnAnswer.TheVariants.{At}
 use Rattle.layout.specs.Columns.{RS1, RD, T1, ALU, SUB, IS-LOAD, IS-STORE, IS-ARITH, RAM-ADDR, FETCH-OP}
 use Rattle.layout.specs.Batch.{geometry_of, mapped, scratch_fits}
 use Rattle.layout.specs.Questions.{no}
@@ -15,7 +12,6 @@ use Rattle.circuit.specs.Circuit.{circuit_words}
 use Rattle.strict.specs.declared.Known.TheVariants.{House}
 use Rattle.verdict.specs.declared.Verdict.{Verdict}
 use Rattle.verdict.specs.declared.Verdict.TheVariants.{Accepted, Failed}
-use Rattle.verdict.specs.declared.CheckAnswer.TheVariants.{Judged}
 use Rattle.verdict.specs.Row.{element_at}
 use Rattle.verdict.specs.Counts.{counts, rows, counts_of}
 use Rattle.verdict.specs.Check.{checked}
@@ -26,6 +22,7 @@ use Rattle.step.specs.Sheet.{has, with_ones, with_output, number}
 use Rattle.judge.specs.FillCheck.{fill_checked}
 use Rattle.witness.specs.declared.branch.BranchReading.TheVariants.{Taken, NotTaken}
 use Rattle.witness.specs.Reading.{reading}
+use Rattle.layout.specs.declared.questions.Question.TheVariants.{BatchSize}
 
 -- ---- the words of the table
 
@@ -38,14 +35,14 @@ use Rattle.witness.specs.Reading.{reading}
 pub record Checks (row : List ℕ) (sum : ℕ) (v : Verdict) : Type 0 where
   pub rows_are : rows (counts_of v) ≡ sum
   pub check : (scratch : List ℕ) → scratch_fits (length scratch) ≡ true
-      → checked 1 circuit_words row scratch ≡ record { answer = Judged v; scratch = replicate (length scratch) 0 }
+      → checked 1 circuit_words row scratch ≡ record { answer = Ok v; scratch = replicate (length scratch) 0 }
 
 -- the filler says yes to a row, and the check gives a verdict on the row that it leaves; filling and checking in one call gives that
 -- verdict and leaves that row
 pub record Filled (row : List ℕ) (sum : ℕ) (v : Verdict) : Type 0 where
-  pub fill : (called 1 row).answer ≡ Yes
+  pub fill : (called 1 row).answer ≡ Ok tt
   pub check : Checks (called 1 row).batch sum v
-  pub fill-check : fill_checked House 1 row ≡ record { answer = Judged v; batch = (called 1 row).batch }
+  pub fill-check : fill_checked House 1 row ≡ record { answer = Ok v; batch = (called 1 row).batch }
 
 -- columns from the first to the last
 abbrev pub columns : ℕ → ℕ → List ℕ
@@ -92,8 +89,8 @@ pub record BenchSheet : Type 0 where
   pub p11-first : take 7 circuit_words ≡ 0xc0000000 ∷ 0x00000140 ∷ 0x000001c0 ∷ 0x40000180 ∷ 0x400001c0 ∷ 0x800001c1 ∷ 0x800001c0 ∷ []
   pub p11-last : get_or circuit_words (length circuit_words - 1) 0 ≡ 0x4000708f
   -- P12 cpi 4: one_col 8,192, m 16,384, w128 64; column 5 of cycle 2 is 22. cpi 0, 3, 512 give 1
-  pub p12-geometry : geometry_of 4 ≡ Of (record { cpi = 4; w_cols = 8192; m = 16384; one_col = 8192; w128 = 64 })
-  pub p12-column : mapped 2048 4 5 2 ≡ At 22
-  pub p12-cpi-0 : geometry_of 0 ≡ Refused (no 1 0)
-  pub p12-cpi-3 : geometry_of 3 ≡ Refused (no 1 0)
-  pub p12-cpi-512 : geometry_of 512 ≡ Refused (no 1 0)
+  pub p12-geometry : geometry_of 4 ≡ Ok (record { cpi = 4; w_cols = 8192; m = 16384; one_col = 8192; w128 = 64 })
+  pub p12-column : mapped 2048 4 5 2 ≡ Ok 22
+  pub p12-cpi-0 : geometry_of 0 ≡ Err (no BatchSize 0)
+  pub p12-cpi-3 : geometry_of 3 ≡ Err (no BatchSize 0)
+  pub p12-cpi-512 : geometry_of 512 ≡ Err (no BatchSize 0)

@@ -1,10 +1,9 @@
 -- The words that bytes stand for, and reading the bytes of a row into its words.
 -- Assumes nothing.
-use Rattle.std.specs.Prelude.{cond, List, [], ◌∷◌, ℕ, zero, suc, ◌+◌, ◌*◌, eqb, length, take, drop}
-use Rattle.layout.specs.declared.Asked.{Asked}
-use Rattle.layout.specs.declared.Asked.TheVariants.{Yes, No}
+use Rattle.std.specs.Prelude.{cond, List, [], ◌∷◌, ℕ, zero, suc, ◌+◌, ◌*◌, eqb, length, take, drop, Err, Ok}
 use Rattle.layout.specs.Batch.{ROW-WORDS}
-use Rattle.layout.specs.Questions.{no, Called, after}
+use Rattle.layout.specs.Questions.{no, Called, after, Asked}
+use Rattle.layout.specs.declared.questions.Question.TheVariants.{BatchLength}
 
 -- the number that bytes spell, the lowest byte first
 unfoldable pub number_of : List ℕ → ℕ
@@ -22,7 +21,7 @@ row_of bytes = words_of ROW-WORDS bytes
 
 -- question 2, of the bytes that are read and of the words that they are read into
 abbrev pub read_asked : ℕ → ℕ → Asked
-read_asked bytes words = cond (eqb bytes 65536) (cond (eqb words ROW-WORDS) Yes (No (no 2 0))) (No (no 2 0))
+read_asked bytes words = cond (eqb bytes 65536) (cond (eqb words ROW-WORDS) (Ok tt) (Err (no BatchLength 0))) (Err (no BatchLength 0))
 
 -- reading a row: its words, or, after a no, what was there
 unfoldable pub read_called : List ℕ → List ℕ → Called

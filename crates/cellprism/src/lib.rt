@@ -11,9 +11,9 @@ ghost use Rattle.cellprism.specs.Bytes.{read_called};
 ghost use Rattle.cellprism.specs.Answer.{row_checked, verdict_word, answer_word};
 
 use circuit::Relation;
-use layout::Asked;
+use layout::{Question, Refusal};
 use strict::Known;
-use verdict::{CheckAnswer, Counts, Verdict};
+use verdict::{Counts, Verdict};
 
 // The relation as in a mark.
 fn relation_bit(relation: Relation) -> u32
@@ -38,26 +38,26 @@ fn verdict_word(v: Verdict) -> u32
     }
 }
 
-fn answer_word(answer: CheckAnswer) -> u32
+fn answer_word(answer: Result<Verdict, Refusal>) -> u32
     ensures { result ≡ answer_word answer }
 {
     match answer {
-        CheckAnswer::Judged(v) => verdict_word(v),
-        CheckAnswer::Refused(r) => 0x80000000 + r.number as u32,
+        Ok(v) => verdict_word(v),
+        Err(r) => 0x80000000 + r.number as u32,
     }
 }
 
 // The check of one row against the house listing: question 2 is all there is to ask. An accepted row is seen to be one from its bytes;
 // another is read into words, and the listing walked.
-pub fn check_bytes(bytes: &[u8]) -> CheckAnswer
+pub fn check_bytes(bytes: &[u8]) -> Result<Verdict, Refusal>
     ensures { result ≡ row_checked bytes.now }
 {
     if bytes.len() != 65536 {
-        return CheckAnswer::Refused(layout::refused(2));
+        return Err(Question::BatchLength.refused());
     }
     if short::short_yes(bytes) {
         let counts = Counts { bin: 483, fld: 31 };
-        return CheckAnswer::Judged(Verdict::Accepted { counts });
+        return Ok(Verdict::Accepted { counts });
     }
     let mut words = [0u64; layout::ROW_WORDS];
     bytes::read_words(bytes, &mut words);
@@ -65,18 +65,18 @@ pub fn check_bytes(bytes: &[u8]) -> CheckAnswer
 }
 
 // Reads the bytes of one row into its words: question 2, of both.
-pub fn read_bytes(bytes: &[u8], words: &mut [u64]) -> Asked
+pub fn read_bytes(bytes: &[u8], words: &mut [u64]) -> Result<(), Refusal>
     ensures { ◌≡◌ {A = Called} (record { answer = result; batch = words.new })
         (read_called bytes.now words.old) }
 {
     if bytes.len() != 8 * layout::ROW_WORDS {
-        return Asked::No(layout::refused(2));
+        return Err(Question::BatchLength.refused());
     }
     if words.len() != layout::ROW_WORDS {
-        return Asked::No(layout::refused(2));
+        return Err(Question::BatchLength.refused());
     }
     bytes::read_words(bytes, words);
-    Asked::Yes
+    Ok(())
 }
 
 // What the prover's host calls.

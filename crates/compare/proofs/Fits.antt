@@ -12,7 +12,6 @@ use Rattle.layout.specs.Batch.{allowed, column_at, mapped}
 use Rattle.layout.specs.Columns.{W-COLS, ONE-COL}
 use Rattle.layout.specs.Questions.{no}
 use Rattle.layout.specs.Laws.Sizes.{allowed-range}
-use Rattle.layout.specs.declared.ColumnAnswer.TheVariants.{At, Refused as NoColumn}
 use Rattle.circuit.specs.declared.Relation.{Relation}
 use Rattle.circuit.specs.declared.Relation.TheVariants.{Bin, Fld}
 use Rattle.circuit.specs.declared.Coefficient.{Coefficient}
@@ -21,12 +20,14 @@ use Rattle.circuit.specs.declared.Side.{Side}
 use Rattle.circuit.specs.declared.Word.{Word}
 use Rattle.circuit.specs.declared.Word.TheVariants.{Mark, Term as OneTerm}
 use Rattle.circuit.specs.declared.batch.BatchWord.{BatchWord}
-use Rattle.circuit.specs.declared.batch.BatchWord.TheVariants.{Row, Refused}
+use Rattle.circuit.specs.declared.batch.BatchWord.TheVariants.{Row}
 use Rattle.circuit.specs.Words.{bits, side_of, is_mark, flag_of, clean_of, relation_of, coefficient_of, word_of}
 use Rattle.circuit.specs.Found.{rows_a_cycle}
 use Rattle.circuit.specs.Laws.Words.{kind-small}
 use Rattle.circuit.specs.Batched.{batch_row, row_in, term_on, in_cycle, batched}
 use Rattle.compare.specs.Numbers.{kept_place, coefficient_number, mark_number, batch_number, word_number}
+use Rattle.layout.specs.declared.questions.Question.TheVariants.{BatchSize, ColumnRange, CycleRange, MarkOrder, WordBits}
+use Rattle.std.specs.Prelude.{Err, Ok}
 
 pub place-small : (p : ℕ) → kept_place p < 2 ^ 32
 place-small p = by-test (ltb p (2 ^ 32 - 1)) refl
@@ -67,7 +68,7 @@ module _ (cpi d : ℕ) (ok : allowed cpi ≡ true) where
     where
       by_tests :
           (rel : Relation) (s t : Bool) → ltb r (rows_a_cycle rel) ≡ s → ltb d cpi ≡ t
-          → Fits (cond s (cond t (Row rel (batch_row rel d r)) (Refused (no 15 0))) (Refused (no 9 0)))
+          → Fits (cond s (cond t (Row rel (batch_row rel d r)) (Err (no CycleRange 0))) (Err (no MarkOrder 0)))
       by_tests Bin true true e f = omega (arith, ltb-true r 512 e, ltb-true d cpi f, allowed-range cpi ok)
       by_tests Fld true true e f = omega (arith, ltb-true r 32 e, ltb-true d cpi f, allowed-range cpi ok)
       by_tests rel true false e f = omega arith
@@ -89,7 +90,7 @@ module _ (cpi d : ℕ) (ok : allowed cpi ≡ true) where
     where
       by_tests :
           (s t : Bool) → ltb c 4096 ≡ s → ltb d cpi ≡ t
-          → Fits (term_on side k (cond s (cond t (At (column_at cpi c d)) (NoColumn (no 15 0))) (NoColumn (no 14 0))))
+          → Fits (term_on side k (cond s (cond t (Ok (column_at cpi c d)) (Err (no CycleRange 0))) (Err (no ColumnRange 0))))
       by_tests true true e f = omega (arith, kind-small side, column-small c (ltb-true _ _ e) (ltb-true _ _ f))
       by_tests true false e f = omega arith
       by_tests false t e f = omega arith
@@ -103,8 +104,8 @@ batched-fits cpi d w h = by_tests (allowed cpi) (clean_of w) (is_mark w) refl
         → Fits
         (cond a
         (cond q (in_cycle cpi d (cond m (Mark (relation_of w) (w % 2 ^ 9)) (OneTerm (side_of w) (coefficient_of w) (w % 2 ^ 12))))
-        (Refused (no 7 0)))
-        (Refused (no 1 0)))
+        (Err (no WordBits 0)))
+        (Err (no BatchSize 0)))
     by_tests true true true ok = row_fits cpi d ok (relation_of w) (w % 2 ^ 9)
     by_tests true true false ok = term_fits cpi d ok (side_of w) (w % 2 ^ 12) (coefficient_of w) (coefficient-small w)
     by_tests true false m ok = omega arith

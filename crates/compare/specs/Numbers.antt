@@ -1,17 +1,11 @@
 -- Answers of the field, the layout and the listing's words as single numbers, for a caller in another language. A refusal is the same
 -- number everywhere, `refused_at`.
 -- Assumes nothing.
-use Rattle.std.specs.Prelude.{cond, List, ℕ, zero, suc, ◌+◌, ◌-◌, ◌*◌, ◌^◌, eqb, ltb, get_or}
+use Rattle.std.specs.Prelude.{cond, List, ℕ, zero, suc, ◌+◌, ◌-◌, ◌*◌, ◌^◌, eqb, ltb, get_or, Err, Ok}
 use Rattle.field.specs.declared.Gf128.{Gf128}
 use Rattle.field.specs.Gf.{low, high}
-use Rattle.layout.specs.declared.Refusal.{Refusal}
+use Rattle.layout.specs.declared.questions.Refusal.{Refusal}
 use Rattle.layout.specs.declared.InstanceGeometry.{InstanceGeometry}
-use Rattle.layout.specs.declared.GeometryAnswer.{GeometryAnswer}
-use Rattle.layout.specs.declared.GeometryAnswer.TheVariants.{Of, Refused as NoGeometry}
-use Rattle.layout.specs.declared.ColumnAnswer.{ColumnAnswer}
-use Rattle.layout.specs.declared.ColumnAnswer.TheVariants.{At, Refused as NoColumn}
-use Rattle.layout.specs.declared.CycleColumnAnswer.{CycleColumnAnswer}
-use Rattle.layout.specs.declared.CycleColumnAnswer.TheVariants.{At as In, Refused as NoCycleColumn}
 use Rattle.layout.specs.Segments.{segments, segment_names, segment_starts, segment_lengths}
 use Rattle.circuit.specs.declared.Relation.{Relation}
 use Rattle.circuit.specs.declared.Relation.TheVariants.{Bin, Fld}
@@ -20,10 +14,13 @@ use Rattle.circuit.specs.declared.Coefficient.TheVariants.{Zero, Power}
 use Rattle.circuit.specs.declared.Word.{Word}
 use Rattle.circuit.specs.declared.Word.TheVariants.{Mark, Term as OneTerm}
 use Rattle.circuit.specs.declared.batch.BatchWord.{BatchWord}
-use Rattle.circuit.specs.declared.batch.BatchWord.TheVariants.{Row, Term, Refused}
-use Rattle.circuit.specs.declared.batch.CycleRowAnswer.{CycleRowAnswer}
-use Rattle.circuit.specs.declared.batch.CycleRowAnswer.TheVariants.{At as RowOf, Refused as NoCycleRow}
+use Rattle.circuit.specs.declared.batch.BatchWord.TheVariants.{Row, Term}
 use Rattle.circuit.specs.Words.{side_kind, relation_of, coefficient_of, clean_of, word_of as meaningOf}
+use Rattle.layout.specs.Questions.{Answer}
+use Rattle.layout.specs.Batch.{cycle_column}
+use Rattle.circuit.specs.Batched.{cycle_row}
+use Rattle.layout.specs.declared.CycleColumn.{CycleColumn}
+use Rattle.circuit.specs.declared.batch.CycleRow.{CycleRow}
 
 -- the first number for part 0, else the second
 abbrev pub one_of : ℕ → ℕ → ℕ → ℕ
@@ -49,22 +46,22 @@ geometry_part (suc (suc zero)) g = g.m
 geometry_part (suc (suc (suc zero))) g = g.one_col
 geometry_part (suc (suc (suc (suc n)))) g = g.w128
 
-abbrev pub geometry_number : ℕ → GeometryAnswer → ℕ
-geometry_number part (Of g) = geometry_part part g
-geometry_number part (NoGeometry r) = refused_at r
+abbrev pub geometry_number : ℕ → Answer InstanceGeometry → ℕ
+geometry_number part (Ok g) = geometry_part part g
+geometry_number part (Err r) = refused_at r
 
-abbrev pub column_number : ColumnAnswer → ℕ
-column_number (At c) = c
-column_number (NoColumn r) = refused_at r
+abbrev pub column_number : Answer ℕ → ℕ
+column_number (Ok c) = c
+column_number (Err r) = refused_at r
 
-abbrev pub cycle_column_number : ℕ → CycleColumnAnswer → ℕ
-cycle_column_number part (In c d) = one_of part c d
-cycle_column_number part (NoCycleColumn r) = refused_at r
+abbrev pub cycle_column_number : ℕ → Answer CycleColumn → ℕ
+cycle_column_number part (cycle_column c d) = one_of part c d
+cycle_column_number part (Err r) = refused_at r
 
 -- part 0 is the row of a cycle, any other the cycle
-abbrev pub cycle_row_number : ℕ → CycleRowAnswer → ℕ
-cycle_row_number part (RowOf d r) = one_of part r d
-cycle_row_number part (NoCycleRow r) = refused_at r
+abbrev pub cycle_row_number : ℕ → Answer CycleRow → ℕ
+cycle_row_number part (cycle_row d r) = one_of part r d
+cycle_row_number part (Err r) = refused_at r
 
 -- 2^k is its exponent, zero is 255
 abbrev pub coefficient_number : Coefficient → ℕ
@@ -83,7 +80,7 @@ mark_number rel = by_relation rel 3 4
 abbrev pub batch_number : BatchWord → ℕ
 batch_number (Row rel n) = n + mark_number rel * 2 ^ 40
 batch_number (Term side k c) = c + coefficient_number k * 2 ^ 32 + side_kind side * 2 ^ 40
-batch_number (Refused r) = refused_at r
+batch_number (Err r) = refused_at r
 
 -- a word by itself: its row or column as it stands there, and the rest as above
 abbrev pub word_number : Word → ℕ

@@ -1,10 +1,8 @@
 -- Answers of the check, the filler, the conditions and packing as numbers, with what a lent slice holds afterwards where one is lent.
 -- Assumes nothing.
-use Rattle.std.specs.Prelude.{cond, List, [], ◌∷◌, ◌++◌, ℕ, ◌+◌, ◌*◌, ◌%◌, ◌^◌, eqb, ltb, length, drop}
+use Rattle.std.specs.Prelude.{cond, List, [], ◌∷◌, ◌++◌, ℕ, ◌+◌, ◌*◌, ◌%◌, ◌^◌, eqb, ltb, length, drop, Bool, Err, None, Ok, Option, false, true}
 use Rattle.field.specs.Gf.{low, high}
-use Rattle.layout.specs.declared.Asked.{Asked}
-use Rattle.layout.specs.declared.Asked.TheVariants.{Yes, No}
-use Rattle.layout.specs.Questions.{Called}
+use Rattle.layout.specs.Questions.{Called, Answer, Asked}
 use Rattle.circuit.specs.declared.Relation.{Relation}
 use Rattle.circuit.specs.declared.Relation.TheVariants.{Bin, Fld}
 use Rattle.strict.specs.declared.Known.{Known}
@@ -12,21 +10,13 @@ use Rattle.strict.specs.declared.Known.TheVariants.{House, Strict}
 use Rattle.verdict.specs.declared.Counts.{Counts}
 use Rattle.verdict.specs.declared.Verdict.{Verdict}
 use Rattle.verdict.specs.declared.Verdict.TheVariants.{Accepted, Failed}
-use Rattle.verdict.specs.declared.CheckAnswer.{CheckAnswer}
-use Rattle.verdict.specs.declared.CheckAnswer.TheVariants.{Judged, Refused as NotJudged}
 use Rattle.verdict.specs.declared.Sums.{Sums}
-use Rattle.verdict.specs.declared.ApplyAnswer.{ApplyAnswer}
-use Rattle.verdict.specs.declared.ApplyAnswer.TheVariants.{Of as Summed, Refused as NotSummed}
-use Rattle.verdict.specs.declared.bits.BitAnswer.{BitAnswer}
-use Rattle.verdict.specs.declared.bits.BitAnswer.TheVariants.{AllBits, NotBit, Refused as NotTested}
 use Rattle.verdict.specs.Check.{Checked}
-use Rattle.filler.specs.declared.conditions.StepAnswer.{StepAnswer}
-use Rattle.filler.specs.declared.conditions.StepAnswer.TheVariants.{Meets, Unmet, Refused as NotAsked}
-use Rattle.packed.specs.declared.Packing.{Packing}
-use Rattle.packed.specs.declared.Packing.TheVariants.{Bits, NotBits, Refused as NotPacked}
 use Rattle.packed.specs.Packed.{NamedCalled}
 use Rattle.judge.specs.FillCheck.{FillChecked}
 use Rattle.compare.specs.Numbers.{refused_at, by_relation}
+use Rattle.verdict.specs.Bits.{not_bit}
+use Rattle.filler.specs.Met.{unmet}
 
 -- the counts: 2^40 times that of fld, and 2^20 times that of bin. Of each 20 bits are kept, and as many of a batch row, which is more than
 -- a batch has
@@ -38,9 +28,9 @@ abbrev pub verdict_number : Verdict → ℕ
 verdict_number (Accepted n) = counts_number n
 verdict_number (Failed rel row n) = by_relation rel (2 ^ 62) (2 ^ 62 + 2 ^ 61) + counts_number n + row % 2 ^ 20
 
-abbrev pub check_number : CheckAnswer → ℕ
-check_number (Judged v) = verdict_number v
-check_number (NotJudged r) = refused_at r
+abbrev pub check_number : Answer Verdict → ℕ
+check_number (Ok v) = verdict_number v
+check_number (Err r) = refused_at r
 
 -- a number, and what the lent slice holds afterwards
 pub record Reply : Type 0 where
@@ -69,31 +59,31 @@ abbrev pub sum_words : Sums → List ℕ
 sum_words s = low s.a ∷ high s.a ∷ low s.b ∷ high s.b ∷ low s.c ∷ high s.c ∷ []
 
 -- sums are written over the first six words, with the answer 0; a refusal writes nothing
-abbrev pub sums_reply : ApplyAnswer → List ℕ → Reply
-sums_reply (Summed s) out = reply 0 (sum_words s ++ drop 6 out)
-sums_reply (NotSummed r) out = reply (refused_at r) out
+abbrev pub sums_reply : Answer Sums → List ℕ → Reply
+sums_reply (Ok s) out = reply 0 (sum_words s ++ drop 6 out)
+sums_reply (Err r) out = reply (refused_at r) out
 
 -- with no room for six words nothing is asked, and the answer is 2^63
-abbrev pub apply_reply : ApplyAnswer → List ℕ → Reply
+abbrev pub apply_reply : Answer Sums → List ℕ → Reply
 apply_reply a out = cond (ltb (length out) 6) (reply (2 ^ 63) out) (sums_reply a out)
 
 -- all bits: 0; else 2^62, 2^48 times the cycle, 2^32 times the column, and the batch column
-abbrev pub bit_number : BitAnswer → ℕ
-bit_number AllBits = 0
-bit_number (NotBit at c d) = 2 ^ 62 + d * 2 ^ 48 + c * 2 ^ 32 + at
-bit_number (NotTested r) = refused_at r
+abbrev pub bit_number : Answer (Option NotBit) → ℕ
+bit_number (Ok None) = 0
+bit_number (not_bit at c d) = 2 ^ 62 + d * 2 ^ 48 + c * 2 ^ 32 + at
+bit_number (Err r) = refused_at r
 
 -- ---- the filler, the conditions, and packed words
 
 -- yes: 0
 abbrev pub asked_number : Asked → ℕ
-asked_number Yes = 0
-asked_number (No r) = refused_at r
+asked_number (Ok _) = 0
+asked_number (Err r) = refused_at r
 
-abbrev pub packing_number : Packing → ℕ
-packing_number Bits = 0
-packing_number NotBits = 1
-packing_number (NotPacked r) = refused_at r
+abbrev pub packing_number : Answer Bool → ℕ
+packing_number (Ok true) = 0
+packing_number (Ok false) = 1
+packing_number (Err r) = refused_at r
 
 abbrev pub pack_reply : NamedCalled → Reply
 pack_reply c = reply (packing_number c.answer) c.out
@@ -102,7 +92,7 @@ abbrev pub called_reply : Called → Reply
 called_reply c = reply (asked_number c.answer) c.batch
 
 -- all met: 0
-abbrev pub step_number : StepAnswer → ℕ
-step_number Meets = 0
-step_number (Unmet k) = k
-step_number (NotAsked r) = refused_at r
+abbrev pub step_number : Answer (Option ℕ) → ℕ
+step_number (Ok None) = 0
+step_number (unmet k) = k
+step_number (Err r) = refused_at r

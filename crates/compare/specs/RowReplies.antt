@@ -1,19 +1,17 @@
 -- What the search for a row, the listing reader and the bench page answer, as numbers.
 -- Assumes nothing.
-use Rattle.std.specs.Prelude.{cond, List, [], ◌∷◌, ◌++◌, ℕ, ◌^◌, eqb, ltb, length, drop}
-use Rattle.layout.specs.Questions.{no}
+use Rattle.std.specs.Prelude.{cond, List, [], ◌∷◌, ◌++◌, ℕ, ◌^◌, eqb, ltb, length, drop, Err, Ok}
+use Rattle.layout.specs.Questions.{no, Answer}
 use Rattle.circuit.specs.declared.Relation.{Relation}
-use Rattle.circuit.specs.declared.search.Found.{Found}
-use Rattle.circuit.specs.declared.search.Found.TheVariants.{At as Stands, Refused as NotFound}
 use Rattle.circuit.specs.Valid.{validated}
-use Rattle.circuit.specs.Found.{found, part_of}
+use Rattle.circuit.specs.Found.{found, part_of, place_at}
 use Rattle.circuit.specs.Reader.{admitted, position_after, row_read}
-use Rattle.page.specs.declared.BytesAnswer.{BytesAnswer}
-use Rattle.page.specs.declared.BytesAnswer.TheVariants.{Of as Bytes, Refused as NoBytes}
 use Rattle.page.specs.Pages.{Laid}
 use Rattle.compare.specs.declared.reader.TwoRows.{TwoRows}
 use Rattle.compare.specs.Numbers.{one_of, refused_at, entry_of}
 use Rattle.compare.specs.Replies.{Reply, reply, asked_number}
+use Rattle.layout.specs.declared.questions.Question.TheVariants.{RowSought}
+use Rattle.circuit.specs.declared.search.Place.{Place}
 
 -- words are opened and asked for a row, and then for another: each is sought in all the words that the reader has, and of each
 -- part word i is read
@@ -29,26 +27,26 @@ two_rows ws rel n rel' n' i = record {
 }
 
 -- where a row starts
-abbrev pub start_number : Found → ℕ
-start_number (Stands start end) = start
-start_number (NotFound r) = refused_at r
+abbrev pub start_number : Answer Place → ℕ
+start_number (place_at start end) = start
+start_number (Err r) = refused_at r
 
 -- the index just after its last word, 0 for a refusal
-abbrev pub end_number : Found → ℕ
-end_number (Stands start end) = end
-end_number (NotFound r) = 0
+abbrev pub end_number : Answer Place → ℕ
+end_number (place_at start end) = end
+end_number (Err r) = 0
 
 -- part 0 is where a row starts, any other its end
-abbrev pub found_number : ℕ → Found → ℕ
+abbrev pub found_number : ℕ → Answer Place → ℕ
 found_number part f = one_of part (start_number f) (end_number f)
 
 -- a row sought in any words for 0, else in words that are opened first
-abbrev pub sought : ℕ → List ℕ → Relation → ℕ → Found
+abbrev pub sought : ℕ → List ℕ → Relation → ℕ → Answer Place
 sought opened ws rel n = cond (eqb opened 0) (found ws rel n) (row_read ws rel n)
 
 -- any start and end for 0, else a refusal
-abbrev pub chosen_place : ℕ → ℕ → ℕ → Found
-chosen_place refused start end = cond (eqb refused 0) (Stands start end) (NotFound (no 13 0))
+abbrev pub chosen_place : ℕ → ℕ → ℕ → Answer Place
+chosen_place refused start end = cond (eqb refused 0) (place_at start end) (Err (no RowSought 0))
 
 -- eight words: of each row its start, its end, the word of its part, and the position afterwards
 abbrev pub row_words : TwoRows → List ℕ
@@ -69,9 +67,9 @@ reader_reply t out = cond (ltb (length out) 8) (reply (2 ^ 63) out) (reply (aske
 
 -- ---- the bench page
 
-abbrev pub bytes_number : BytesAnswer → ℕ
-bytes_number (Bytes n) = n
-bytes_number (NoBytes r) = refused_at r
+abbrev pub bytes_number : Answer ℕ → ℕ
+bytes_number (Ok n) = n
+bytes_number (Err r) = refused_at r
 
 -- laid out: 0
 abbrev pub page_reply : Laid → Reply

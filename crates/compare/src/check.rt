@@ -10,8 +10,7 @@ ghost use Rattle.compare.specs.Replies.{counts_number, verdict_number, check_num
 use circuit::Relation;
 use layout::Refusal;
 use strict::Known;
-use verdict::bits::BitAnswer;
-use verdict::{ApplyAnswer, CheckAnswer, Counts, Sums, Verdict};
+use verdict::{Counts, Sums, Verdict};
 
 fn kept_place(place: usize) -> u64
     ensures { result ≡ kept_place place }
@@ -62,12 +61,12 @@ fn verdict_number(v: Verdict) -> u64
     }
 }
 
-fn check_number(answer: CheckAnswer) -> u64
+fn check_number(answer: Result<Verdict, Refusal>) -> u64
     ensures { result ≡ check_number answer }
 {
     match answer {
-        CheckAnswer::Judged(v) => verdict_number(v),
-        CheckAnswer::Refused(r) => refused_at(r),
+        Ok(v) => verdict_number(v),
+        Err(r) => refused_at(r),
     }
 }
 
@@ -131,16 +130,16 @@ fn write_sums(s: Sums, out: &mut [u64])
     out[5] = c.high();
 }
 
-fn put_sums(answer: ApplyAnswer, out: &mut [u64]) -> u64
+fn put_sums(answer: Result<Sums, Refusal>, out: &mut [u64]) -> u64
     requires { 6 ≤ length out.old }
     ensures { reply result out.new ≡ sums_reply answer out.old }
 {
     match answer {
-        ApplyAnswer::Of(s) => {
+        Ok(s) => {
             write_sums(s, out);
             0
         }
-        ApplyAnswer::Refused(r) => refused_at(r),
+        Err(r) => refused_at(r),
     }
 }
 
@@ -165,19 +164,19 @@ pub fn compare_apply(
     )
 }
 
-fn bit_number(answer: BitAnswer) -> u64
+fn bit_number(answer: Result<Option<NotBit>, Refusal>) -> u64
     requires { bit_number answer < 2 ^ 64 }
     ensures { result ≡ bit_number answer }
 {
     match answer {
-        BitAnswer::AllBits => 0,
+        Ok(None) => 0,
         BitAnswer::NotBit { at, column, cycle } => {
             0x4000000000000000
                 + cycle as u64 * 0x1000000000000
                 + column as u64 * 0x100000000
                 + at as u64
         }
-        BitAnswer::Refused(r) => refused_at(r),
+        Err(r) => refused_at(r),
     }
 }
 

@@ -5,15 +5,14 @@ ghost use Rattle.filler.specs.Met.{step_answer};
 ghost use Rattle.compare.specs.Replies.{reply, asked_number, called_reply, step_number};
 
 use crate::check::refused_at;
-use filler::conditions::StepAnswer;
-use layout::Asked;
+use layout::Refusal;
 
-pub fn asked_number(answer: Asked) -> u64
+pub fn asked_number(answer: Result<(), Refusal>) -> u64
     ensures { result ≡ asked_number answer }
 {
     match answer {
-        Asked::Yes => 0,
-        Asked::No(r) => refused_at(r),
+        Ok(()) => 0,
+        Err(r) => refused_at(r),
     }
 }
 
@@ -23,13 +22,13 @@ pub fn compare_fill(cpi: usize, batch: &mut [u64]) -> u64
     asked_number(filler::fill::fill(cpi, batch))
 }
 
-fn step_number(answer: StepAnswer) -> u64
+fn step_number(answer: Result<Option<usize>, Refusal>) -> u64
     ensures { result ≡ step_number answer }
 {
     match answer {
-        StepAnswer::Meets => 0,
-        StepAnswer::Unmet(k) => k as u64,
-        StepAnswer::Refused(r) => refused_at(r),
+        Ok(None) => 0,
+        Ok(Some(k)) => k as u64,
+        Err(r) => refused_at(r),
     }
 }
 

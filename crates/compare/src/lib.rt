@@ -25,10 +25,10 @@ ghost use Rattle.compare.specs.Numbers.{one_of, word_of, geometry_part, geometry
 ghost use Rattle.compare.specs.Replies.{chosen_listing, chosen_relation};
 
 use crate::check::{by_relation, chosen_listing, chosen_relation, refused_at};
-use circuit::batch::{BatchWord, CycleRowAnswer};
+use circuit::batch::BatchWord;
 use circuit::{Coefficient, Relation};
 use field::Gf128;
-use layout::{ColumnAnswer, CycleColumnAnswer, GeometryAnswer, InstanceGeometry};
+use layout::{InstanceGeometry, Refusal};
 use strict::Known;
 
 // The first number for part 0, else the second.
@@ -91,8 +91,8 @@ pub fn compare_geometry(cpi: usize, part: u32) -> u64
 {
     let answer = layout::geometry(cpi);
     match answer {
-        GeometryAnswer::Of(g) => geometry_part(g, part),
-        GeometryAnswer::Refused(r) => refused_at(r),
+        Ok(g) => geometry_part(g, part),
+        Err(r) => refused_at(r),
     }
 }
 
@@ -109,12 +109,12 @@ pub fn compare_scratch_fits(words: usize) -> u32
     if layout::scratch_fits(words) { 1 } else { 0 }
 }
 
-fn column_number(answer: ColumnAnswer) -> u64
+fn column_number(answer: Result<usize, Refusal>) -> u64
     ensures { result ≡ column_number answer }
 {
     match answer {
-        ColumnAnswer::At(c) => c as u64,
-        ColumnAnswer::Refused(r) => refused_at(r),
+        Ok(c) => c as u64,
+        Err(r) => refused_at(r),
     }
 }
 
@@ -136,7 +136,7 @@ pub fn compare_way_back(cpi: usize, column: usize, part: u32) -> u64
     let answer = layout::unmap_col(cpi, column);
     match answer {
         CycleColumnAnswer::At { column: c, cycle } => one_of(part, c as u64, cycle as u64),
-        CycleColumnAnswer::Refused(r) => refused_at(r),
+        Err(r) => refused_at(r),
     }
 }
 
@@ -146,7 +146,7 @@ pub fn compare_row_way_back(cpi: usize, relation: u32, batch_row: usize, part: u
     let answer = circuit::batch::unmap_row(cpi, chosen_relation(relation), batch_row);
     match answer {
         CycleRowAnswer::At { cycle, row } => one_of(part, row as u64, cycle as u64),
-        CycleRowAnswer::Refused(r) => refused_at(r),
+        Err(r) => refused_at(r),
     }
 }
 

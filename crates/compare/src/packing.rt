@@ -4,15 +4,15 @@ ghost use Rattle.packed.specs.Packed.{named_called};
 ghost use Rattle.compare.specs.Replies.{reply, packing_number, pack_reply};
 
 use crate::check::refused_at;
-use packed::Packing;
+use layout::Refusal;
 
-fn packing_number(answer: Packing) -> u64
+fn packing_number(answer: Result<bool, Refusal>) -> u64
     ensures { result ≡ packing_number answer }
 {
     match answer {
-        Packing::Bits => 0,
-        Packing::NotBits => 1,
-        Packing::Refused(r) => refused_at(r),
+        Ok(true) => 0,
+        Ok(false) => 1,
+        Err(r) => refused_at(r),
     }
 }
 

@@ -6,7 +6,6 @@ ghost use Rattle.compare.specs.RowReplies.{bytes_number, page_reply};
 
 use crate::check::{chosen_relation, refused_at};
 use crate::fills::asked_number;
-use page::BytesAnswer;
 
 pub fn compare_page(
     cpi: usize,
@@ -28,7 +27,7 @@ pub fn compare_page_bytes(listing: &[u32], relation: u32, listing_row: usize) ->
     ensures { result ≡ bytes_number (bytes_for listing.now (chosen_relation relation) listing_row) }
 {
     match page::page_bytes(listing, chosen_relation(relation), listing_row) {
-        BytesAnswer::Of(bytes) => bytes as u64,
-        BytesAnswer::Refused(r) => refused_at(r),
+        Ok(bytes) => bytes as u64,
+        Err(r) => refused_at(r),
     }
 }

@@ -8,17 +8,16 @@ use crate::fills::asked_number;
 use crate::search::word_at;
 use circuit::Relation;
 use circuit::reader::ListingReader;
-use circuit::search::Found;
-use layout::Asked;
+use layout::Refusal;
 
 // What the opening answered, and of each row the place, a word of the part, and the position afterwards.
 #[derive(Clone, Copy)]
 pub struct TwoRows {
-    pub asked: Asked,
-    pub first: Found,
+    pub asked: Result<(), Refusal>,
+    pub first: Result<Place, Refusal>,
     pub first_word: u64,
     pub between: usize,
-    pub second: Found,
+    pub second: Result<Place, Refusal>,
     pub second_word: u64,
     pub last: usize,
 }
@@ -49,21 +48,21 @@ fn two_rows(
     }
 }
 
-pub fn start_number(place: Found) -> u64
+pub fn start_number(place: Result<Place, Refusal>) -> u64
     ensures { result ≡ start_number place }
 {
     match place {
         Found::At { start, end: _ } => start as u64,
-        Found::Refused(r) => refused_at(r),
+        Err(r) => refused_at(r),
     }
 }
 
-pub fn end_number(place: Found) -> u64
+pub fn end_number(place: Result<Place, Refusal>) -> u64
     ensures { result ≡ end_number place }
 {
     match place {
         Found::At { start: _, end } => end as u64,
-        Found::Refused(_) => 0,
+        Err(_) => 0,
     }
 }
 

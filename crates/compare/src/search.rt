@@ -9,7 +9,7 @@ use crate::check::chosen_relation;
 use crate::one_of;
 use crate::reader::{end_number, start_number};
 use circuit::Relation;
-use circuit::search::Found;
+use layout::{Question, Refusal};
 
 // Word i, 2^63 past the end.
 pub fn word_at(words: &[u32], i: usize) -> u64
@@ -22,14 +22,14 @@ pub fn word_at(words: &[u32], i: usize) -> u64
     }
 }
 
-fn found_number(place: Found, part: u32) -> u64
+fn found_number(place: Result<Place, Refusal>, part: u32) -> u64
     ensures { result ≡ found_number part place }
 {
     one_of(part, start_number(place), end_number(place))
 }
 
 // For `opened` 0 in any words, else in words that are opened first.
-fn seek(opened: u32, listing: &[u32], relation: Relation, row: usize) -> Found
+fn seek(opened: u32, listing: &[u32], relation: Relation, row: usize) -> Result<Place, Refusal>
     ensures { result ≡ sought opened listing.now relation row }
 {
     if opened == 0 {
@@ -53,13 +53,13 @@ pub fn compare_row_part(listing: &[u32], relation: u32, row: usize, i: usize) ->
     )
 }
 
-fn chosen_place(refused: u32, start: usize, end: usize) -> Found
+fn chosen_place(refused: u32, start: usize, end: usize) -> Result<Place, Refusal>
     ensures { result ≡ chosen_place refused start end }
 {
     if refused == 0 {
         Found::At { start, end }
     } else {
-        Found::Refused(layout::refused(13))
+        Err(Question::RowSought.refused())
     }
 }
 

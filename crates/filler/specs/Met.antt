@@ -2,13 +2,13 @@
 -- makes and its contracts cite. Laws/MetEach proves every test true exactly when the condition of its number holds, Laws/MetFirst that
 -- all are met exactly when the record of the conditions holds, Laws/MetRead that these are the words that the code reads.
 -- Assumes nothing.
-use Rattle.std.specs.Prelude.{ℕ, ◌+◌, ◌-◌, ◌*◌, ◌/◌, ◌%◌, ◌^◌, Bool, true, false, cond, not, ◌&&◌, ◌||◌, List, [], ◌∷◌, ◌==◌, nat_eq, nat_lt, slice_index_or}
+use Rattle.std.specs.Prelude.{ℕ, ◌+◌, ◌-◌, ◌*◌, ◌/◌, ◌%◌, ◌^◌, Bool, true, false, cond, not, ◌&&◌, ◌||◌, List, [], ◌∷◌, ◌==◌, nat_eq, nat_lt, slice_index_or, Err, None, Ok, Option}
 use Rattle.base.specs.Bits.{digit, ◌⊻◌, word, bit_at}
 use Rattle.base.specs.Tests.{first_from}
 use Rattle.field.specs.declared.Gf128.{Gf128}
 use Rattle.field.specs.Gf.{of_words, same}
 use Rattle.layout.specs.Columns.{ONE-COL, RS1, RD, LOAD-VAL, SHIFT-OUT, T1, T2, ALU, FLAGS, OFF, SUB, WE, IS-LOAD, IS-STORE, IS-ARITH, IS-SHIFT, LD-BYTE, LD-HALF, LD-WORD, RAM-ADDR}
-use Rattle.layout.specs.Questions.{no, if_yes}
+use Rattle.layout.specs.Questions.{no, if_yes, Answer}
 use Rattle.strict.specs.declared.Known.{Known}
 use Rattle.strict.specs.declared.Known.TheVariants.{House, Strict}
 use Rattle.verdict.specs.Row.{cycle_of, bits_of}
@@ -16,11 +16,10 @@ use Rattle.step.specs.Step.{opcode, offset}
 use Rattle.step.specs.Fill.{fill_asked}
 use Rattle.filler.specs.declared.bits.Flags.{Flags}
 use Rattle.filler.specs.declared.derive.GivenWords.{GivenWords}
-use Rattle.filler.specs.declared.conditions.StepAnswer.{StepAnswer}
-use Rattle.filler.specs.declared.conditions.StepAnswer.TheVariants.{Meets, Unmet, Refused}
 use Rattle.filler.specs.declared.conditions.StepWords.{StepWords}
 use Rattle.filler.specs.declared.conditions.StepFlags.{StepFlags}
 use Rattle.filler.specs.Words.{gate_flags}
+use Rattle.layout.specs.declared.questions.Question.TheVariants.{CycleRange}
 
 -- ---- what the conditions read of a cycle
 
@@ -151,20 +150,20 @@ abbrev pub numbered : List Bool → ℕ → Bool
 numbered met k = slice_index_or met (k - 1) false
 
 -- the first that is not met
-abbrev pub named : ℕ → StepAnswer
-named k = cond (nat_lt k 11) (Unmet k) Meets
+abbrev pub named : ℕ → Answer (Option ℕ)
+named k = cond (nat_lt k 11) (unmet k) (Ok None)
 
-unfoldable pub first_false : List Bool → StepAnswer
+unfoldable pub first_false : List Bool → Answer (Option ℕ)
 first_false met = named (first_from (λ k. not (numbered met k)) 1 10)
 
 -- of a cycle: of its bits, and of the public element one_col + 1
-unfoldable pub first_unmet : (ℕ → Bool) → Gf128 → StepAnswer
+unfoldable pub first_unmet : (ℕ → Bool) → Gf128 → Answer (Option ℕ)
 first_unmet b output = first_false (conditions (words_of b) (flags_of b) output)
 
 -- ---- as it is called: questions 1, 2, 11, 12 and 15
 
-abbrev pub if_inside : ℕ → List ℕ → ℕ → StepAnswer
-if_inside cpi batch d = cond (nat_lt d cpi) (first_unmet (bits_of cpi batch d) (cycle_of cpi batch d (ONE-COL + 1))) (Refused (no 15 0))
+abbrev pub if_inside : ℕ → List ℕ → ℕ → Answer (Option ℕ)
+if_inside cpi batch d = cond (nat_lt d cpi) (first_unmet (bits_of cpi batch d) (cycle_of cpi batch d (ONE-COL + 1))) (Err (no CycleRange 0))
 
-unfoldable pub step_answer : ℕ → List ℕ → ℕ → StepAnswer
-step_answer cpi batch d = if_yes Refused (fill_asked cpi batch) (if_inside cpi batch d)
+unfoldable pub step_answer : ℕ → List ℕ → ℕ → Answer (Option ℕ)
+step_answer cpi batch d = if_yes Err (fill_asked cpi batch) (if_inside cpi batch d)

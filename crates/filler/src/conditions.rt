@@ -14,7 +14,7 @@ use crate::fill::ask;
 use crate::words::{element, read_given, read_word};
 use field::Gf128;
 use layout::columns::{ONE_COL, RD, SHIFT_OUT};
-use layout::{Asked, Refusal};
+use layout::{Question, Refusal};
 use strict::Known;
 
 // Every condition is met, or the number of the first that is not.
@@ -156,17 +156,17 @@ fn conditions(w: StepWords, f: StepFlags, output: Gf128) -> [bool; 10]
     ]
 }
 
-fn first_false(met: [bool; 10]) -> StepAnswer
+fn first_false(met: [bool; 10]) -> Result<Option<usize>, Refusal>
     ensures { result ≡ first_false met }
 {
     let mut k: usize = 1;
     while k < 11 {
         if !met[k - 1] {
-            return StepAnswer::Unmet(k);
+            return Ok(Some(k));
         }
         k = k + 1;
     }
-    StepAnswer::Meets
+    Ok(None)
 }
 
 // From the words that the derived columns depend on, and two that they do not.
@@ -223,7 +223,7 @@ pub fn meets_all(which: Known, w: StepWords, flags: u64, output: Gf128) -> bool
 }
 
 // Of a cycle of the batch. The public element behind the one column is the same for every cycle.
-fn unmet_in(batch: &[u64], cpi: usize, cycle: usize) -> StepAnswer
+fn unmet_in(batch: &[u64], cpi: usize, cycle: usize) -> Result<Option<usize>, Refusal>
     requires { Cycle cpi cycle batch.now }
     ensures { result ≡ first_unmet (bits_of cpi batch.now cycle) (cycle_of cpi batch.now cycle (ONE-COL + 1)) }
 {
@@ -235,14 +235,14 @@ fn unmet_in(batch: &[u64], cpi: usize, cycle: usize) -> StepAnswer
 }
 
 // Questions 1, 2, 11, 12 and 15, and then the conditions in their order.
-pub fn first_unmet(cpi: usize, batch: &[u64], cycle: usize) -> StepAnswer
+pub fn first_unmet(cpi: usize, batch: &[u64], cycle: usize) -> Result<Option<usize>, Refusal>
     ensures { result ≡ step_answer cpi batch.now cycle }
 {
     match ask(cpi, batch) {
-        Asked::No(r) => StepAnswer::Refused(r),
-        Asked::Yes => {
+        Err(r) => Err(r),
+        Ok(()) => {
             if cpi <= cycle {
-                return StepAnswer::Refused(layout::refused(15));
+                return Err(Question::CycleRange.refused());
             }
             unmet_in(batch, cpi, cycle)
         }

@@ -13,7 +13,7 @@ use crate::derive::{DerivedWords, GivenWords, derive, taken_bit};
 use crate::words::{element, put_word, read_given};
 use field::Gf128;
 use layout::columns::{CARRY_OFF, EQA, HALT, OPSYS, SHIFT_SRC, STORE_OLD, STORE_SRC, TAKEN, ZERO};
-use layout::{Asked, Refusal};
+use layout::{Question, Refusal};
 
 fn is_derived(column: usize) -> bool
     ensures { result ≡ derived column }
@@ -55,27 +55,27 @@ fn first_faulty(cpi: usize, batch: &[u64]) -> usize
 }
 
 // Questions 11 and 12.
-fn ask_columns(cpi: usize, batch: &[u64]) -> Asked
+fn ask_columns(cpi: usize, batch: &[u64]) -> Result<(), Refusal>
     requires { (allowed cpi ≡ true) × (length batch.now ≡ batch_words cpi) }
     ensures { result ≡ columns_asked cpi batch.now }
 {
     let place = first_faulty(cpi, batch);
     if place < 2048 * cpi {
-        return Asked::No(Refusal { number: 11, place });
+        return Err(Refusal { question: Question::GivenBits, place });
     }
     if !element(batch, 2048 * cpi).same(Gf128::one()) {
-        return Asked::No(layout::refused(12));
+        return Err(Question::OneColumn.refused());
     }
-    Asked::Yes
+    Ok(())
 }
 
 // Questions 1, 2, 11 and 12.
-pub fn ask(cpi: usize, batch: &[u64]) -> Asked
+pub fn ask(cpi: usize, batch: &[u64]) -> Result<(), Refusal>
     ensures { result ≡ fill_asked cpi batch.now }
 {
     match layout::ask_batch(cpi, batch.len()) {
-        Asked::No(r) => Asked::No(r),
-        Asked::Yes => ask_columns(cpi, batch),
+        Err(r) => Err(r),
+        Ok(()) => ask_columns(cpi, batch),
     }
 }
 
@@ -131,15 +131,15 @@ fn fill_cycles(cpi: usize, batch: &mut [u64])
 }
 
 // Question by question, and then the derived columns of every cycle, whatever stood there. A no leaves the batch as it came.
-pub fn fill(cpi: usize, batch: &mut [u64]) -> Asked
+pub fn fill(cpi: usize, batch: &mut [u64]) -> Result<(), Refusal>
     ensures { ◌≡◌ {A = Called} (record { answer = result; batch = batch.new }) (called cpi batch.old) }
 {
     let asked = ask(cpi, batch);
     match asked {
-        Asked::No(r) => Asked::No(r),
-        Asked::Yes => {
+        Err(r) => Err(r),
+        Ok(()) => {
             fill_cycles(cpi, batch);
-            Asked::Yes
+            Ok(())
         }
     }
 }

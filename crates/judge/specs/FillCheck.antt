@@ -1,32 +1,30 @@
 -- Filling and checking in one call: the filler's questions, then the check of what it wrote. Demand 3 makes its acceptance a statement
 -- about the batch as it came. The laws are in Laws/FillCheck, given batches in Laws/FillCheckExamples.
 -- Assumes nothing.
-use Rattle.std.specs.Prelude.{◌≡◌, ◌↔◌, true, List, ℕ, ◌+◌, ◌<◌, length}
-use Rattle.layout.specs.declared.Refusal.{Refusal}
-use Rattle.layout.specs.declared.Asked.{Asked}
-use Rattle.layout.specs.declared.Asked.TheVariants.{Yes, No}
+use Rattle.std.specs.Prelude.{◌≡◌, ◌↔◌, true, List, ℕ, ◌+◌, ◌<◌, length, Err, Ok}
+use Rattle.layout.specs.declared.questions.Refusal.{Refusal}
 use Rattle.layout.specs.Columns.{ONE-COL}
 use Rattle.layout.specs.Batch.{scratch_fits}
 use Rattle.strict.specs.declared.Known.{Known}
 use Rattle.strict.specs.Known.{listing_of}
-use Rattle.verdict.specs.declared.CheckAnswer.{CheckAnswer}
-use Rattle.verdict.specs.declared.CheckAnswer.TheVariants.{Refused}
 use Rattle.verdict.specs.Row.{cycle_of, bits_of}
 use Rattle.verdict.specs.Check.{checked, known_checked}
 use Rattle.step.specs.Strict.{ConditionsOf}
 use Rattle.step.specs.Filling.{SameElsewhere, filled}
 use Rattle.step.specs.Fill.{fill_asked, called}
 use Rattle.step.specs.Demand3.{accepts, fails}
+use Rattle.layout.specs.Questions.{Answer, Asked}
+use Rattle.verdict.specs.declared.Verdict.{Verdict}
 
 -- the answer, and the batch afterwards
 pub record FillChecked : Type 0 where
-  pub answer : CheckAnswer
+  pub answer : Answer Verdict
   pub batch : List ℕ
 
 -- what the filler refuses is refused with its number and place; what it fills is checked
-abbrev pub answer_after : Known → ℕ → Asked → List ℕ → CheckAnswer
-answer_after k cpi Yes batch = known_checked k cpi batch
-answer_after k cpi (No r) batch = Refused r
+abbrev pub answer_after : Known → ℕ → Asked → List ℕ → Answer Verdict
+answer_after k cpi (Ok _) batch = known_checked k cpi batch
+answer_after k cpi (Err r) batch = Err r
 
 unfoldable pub fill_checked : Known → ℕ → List ℕ → FillChecked
 fill_checked k cpi batch = let c = called cpi batch in record { answer = answer_after k cpi c.answer c.batch; batch = c.batch }
@@ -39,12 +37,12 @@ EveryStep k cpi batch = (d : ℕ) → d < cpi → ConditionsOf k (bits_of cpi ba
 -- batch. After a yes the batch is filled, and the answer that of the check on it, lent that listing and any scratch that fits. It is
 -- accepted exactly when the questions were answered with yes and every cycle meets the conditions, and fails exactly when they were and
 -- some cycle does not; and it is the same whatever stood in the derived columns.
-pub record Promised (k : Known) (cpi : ℕ) (before : List ℕ) (answer : CheckAnswer) (batch : List ℕ) : Type 0 where
+pub record Promised (k : Known) (cpi : ℕ) (before : List ℕ) (answer : Answer Verdict) (batch : List ℕ) : Type 0 where
   pub result : ◌≡◌ {A = FillChecked} (record { answer = answer; batch = batch }) (fill_checked k cpi before)
-  pub refused : (r : Refusal) → fill_asked cpi before ≡ No r → (answer ≡ Refused r) × (batch ≡ before)
-  pub fills : fill_asked cpi before ≡ Yes → batch ≡ filled cpi before
-  pub as-checked : fill_asked cpi before ≡ Yes → (scratch : List ℕ) → scratch_fits (length scratch) ≡ true
+  pub refused : (r : Refusal) → fill_asked cpi before ≡ Err r → (answer ≡ Err r) × (batch ≡ before)
+  pub fills : fill_asked cpi before ≡ Ok tt → batch ≡ filled cpi before
+  pub as-checked : fill_asked cpi before ≡ Ok tt → (scratch : List ℕ) → scratch_fits (length scratch) ≡ true
       → answer ≡ (checked cpi (listing_of k) batch scratch).answer
-  pub accepted : (accepts answer ≡ true) ↔ ((fill_asked cpi before ≡ Yes) × EveryStep k cpi before)
-  pub failed : (fails answer ≡ true) ↔ ((fill_asked cpi before ≡ Yes) × (EveryStep k cpi before → ⊥))
+  pub accepted : (accepts answer ≡ true) ↔ ((fill_asked cpi before ≡ Ok tt) × EveryStep k cpi before)
+  pub failed : (fails answer ≡ true) ↔ ((fill_asked cpi before ≡ Ok tt) × (EveryStep k cpi before → ⊥))
   pub whatever : (other : List ℕ) → SameElsewhere cpi other before → (fill_checked k cpi other).answer ≡ answer

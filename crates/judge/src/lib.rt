@@ -4,11 +4,9 @@
 mod cycle;
 mod short;
 
-ghost use Rattle.std.specs.Prelude.{◌≡◌, ◌*◌, ◌≤◌, get_or};
-ghost use Rattle.layout.specs.declared.Asked.TheVariants.{Yes};
+ghost use Rattle.std.specs.Prelude.{◌≡◌, ◌*◌, ◌≤◌, get_or, Err, Ok};
 ghost use Rattle.strict.specs.Known.{rows_each};
 ghost use Rattle.verdict.specs.declared.Verdict.TheVariants.{Accepted};
-ghost use Rattle.verdict.specs.declared.CheckAnswer.TheVariants.{Judged};
 ghost use Rattle.verdict.specs.Counts.{every_row_of};
 ghost use Rattle.verdict.specs.Check.{Checked, after, checked, known_checked};
 ghost use Rattle.judge.specs.FillCheck.{Promised};
@@ -18,9 +16,9 @@ use crate::cycle::judge_cycle;
 use crate::short::{short_row, short_yes};
 use circuit::Relation;
 use field::Gf128;
-use layout::Asked;
+use layout::Refusal;
 use strict::Known;
-use verdict::{CheckAnswer, Counts, Verdict};
+use verdict::{Counts, Verdict};
 
 // One cycle: word k has columns 64 k to 64 k + 63, and `output` is the public element behind the one column.
 pub fn judge_words(which: Known, words: &[u64; 32], output: Gf128) -> bool
@@ -38,29 +36,29 @@ fn rows_in(which: Known, relation: Relation, cpi: usize) -> u32
 }
 
 // Accepted, with every row of every cycle counted.
-fn all_rows(which: Known, cpi: usize) -> CheckAnswer
+fn all_rows(which: Known, cpi: usize) -> Result<Verdict, Refusal>
     requires { cpi ≤ 256 }
-    ensures { result ≡ Judged (Accepted (every_row_of which cpi)) }
+    ensures { result ≡ Ok (Accepted (every_row_of which cpi)) }
 {
     let counts = Counts {
         bin: rows_in(which, Relation::Bin, cpi),
         fld: rows_in(which, Relation::Fld, cpi),
     };
-    CheckAnswer::Judged(Verdict::Accepted { counts })
+    Ok(Verdict::Accepted { counts })
 }
 
 // The same, with scratch as a verdict leaves it.
-fn accept(which: Known, cpi: usize, scratch: &mut [u64]) -> CheckAnswer
+fn accept(which: Known, cpi: usize, scratch: &mut [u64]) -> Result<Verdict, Refusal>
     requires { cpi ≤ 256 }
     ensures { ◌≡◌ {A = Checked} (record { answer = result; scratch = scratch.new })
-        (after Yes (Accepted (every_row_of which cpi)) scratch.old) }
+        (after (Ok tt) (Accepted (every_row_of which cpi)) scratch.old) }
 {
     verdict::clear(scratch);
     all_rows(which, cpi)
 }
 
 // The check against a known listing, with none lent: questions 1 and 2.
-pub fn check_known(which: Known, cpi: usize, batch: &[u64]) -> CheckAnswer
+pub fn check_known(which: Known, cpi: usize, batch: &[u64]) -> Result<Verdict, Refusal>
     ensures { result ≡ known_checked which cpi batch.now }
 {
     if short_yes(which, cpi, batch) {
@@ -70,7 +68,7 @@ pub fn check_known(which: Known, cpi: usize, batch: &[u64]) -> CheckAnswer
 }
 
 // The check against a listing that is lent: questions 1, 2, 5, and 6 to 10.
-pub fn check_row(cpi: usize, listing: &[u32], batch: &[u64], scratch: &mut [u64]) -> CheckAnswer
+pub fn check_row(cpi: usize, listing: &[u32], batch: &[u64], scratch: &mut [u64]) -> Result<Verdict, Refusal>
     ensures { ◌≡◌ {A = Checked} (record { answer = result; scratch = scratch.new })
         (checked cpi listing.now batch.now scratch.old) }
 {
@@ -86,12 +84,12 @@ pub fn check_row(cpi: usize, listing: &[u32], batch: &[u64], scratch: &mut [u64]
 // Fills a batch and checks it against a known listing: the filler's questions, 1, 2, 11 and 12; a no leaves the batch as it came. What
 // demand 3 says of acceptance is its promise: accepted exactly when every cycle meets the conditions of that listing, whatever stood in
 // the derived columns.
-pub fn fill_and_check(which: Known, cpi: usize, batch: &mut [u64]) -> CheckAnswer
+pub fn fill_and_check(which: Known, cpi: usize, batch: &mut [u64]) -> Result<Verdict, Refusal>
     ensures { Promised which cpi batch.old result batch.new }
 {
     let asked = filler::fill::fill(cpi, batch);
     match asked {
-        Asked::No(r) => CheckAnswer::Refused(r),
-        Asked::Yes => check_known(which, cpi, batch),
+        Err(r) => Err(r),
+        Ok(()) => check_known(which, cpi, batch),
     }
 }

@@ -8,8 +8,7 @@ ghost use Rattle.judge.specs.Short.{short_bits, short_yes, ShortIn, ShortRow};
 
 use crate::cycle::judge_cycles;
 use field::Gf128;
-use layout::Asked;
-use packed::Packing;
+use layout::Refusal;
 use strict::Known;
 
 fn element(batch: &[u64], at: usize) -> Gf128
@@ -20,7 +19,7 @@ fn element(batch: &[u64], at: usize) -> Gf128
 }
 
 // Of a batch of one cycle the packing stands apart: the two run faster as one piece of code.
-fn pack(cpi: usize, batch: &[u64], out: &mut [u64]) -> Packing
+fn pack(cpi: usize, batch: &[u64], out: &mut [u64]) -> Result<bool, Refusal>
     requires { NamedIn cpi batch.now out.old }
     ensures { ◌≡◌ {A = NamedCalled} (record { answer = result; out = out.new }) (named_called cpi batch.now out.old) }
 {
@@ -36,9 +35,9 @@ fn pack_and_judge(which: Known, cpi: usize, batch: &[u64], out: &mut [u64]) -> b
     ensures { result ≡ short_bits which cpi batch.now out.old }
 {
     match pack(cpi, batch, out) {
-        Packing::Bits => judge_cycles(which, cpi, out, element(batch, 2048 * cpi + 1)),
-        Packing::NotBits => false,
-        Packing::Refused(_) => false,
+        Ok(true) => judge_cycles(which, cpi, out, element(batch, 2048 * cpi + 1)),
+        Ok(false) => false,
+        Err(_) => false,
     }
 }
 
@@ -87,8 +86,8 @@ pub fn short_yes(which: Known, cpi: usize, batch: &[u64]) -> bool
     ensures { result ≡ short_yes which cpi batch.now }
 {
     match layout::ask_batch(cpi, batch.len()) {
-        Asked::No(_) => false,
-        Asked::Yes => {
+        Err(_) => false,
+        Ok(()) => {
             if !element(batch, 2048 * cpi).same(Gf128::one()) {
                 return false;
             }

@@ -1,18 +1,16 @@
 -- What is said of a merged batch, from what is said of its two parts of cpi cycles each: the verdict of the plain check, and the answer of
 -- the bit test.
 -- Assumes nothing.
-use Rattle.std.specs.Prelude.{cond, ℕ, ◌+◌, ◌*◌, leb}
+use Rattle.std.specs.Prelude.{cond, ℕ, ◌+◌, ◌*◌, leb, Err, None, Ok, Option}
 use Rattle.layout.specs.Batch.{column_at}
 use Rattle.circuit.specs.declared.Relation.{Relation}
 use Rattle.circuit.specs.declared.Relation.TheVariants.{Bin, Fld}
 use Rattle.circuit.specs.Batched.{batch_row}
 use Rattle.verdict.specs.declared.Verdict.{Verdict}
 use Rattle.verdict.specs.declared.Verdict.TheVariants.{Accepted, Failed}
-use Rattle.verdict.specs.declared.CheckAnswer.{CheckAnswer}
-use Rattle.verdict.specs.declared.CheckAnswer.TheVariants.{Judged, Refused}
-use Rattle.verdict.specs.declared.bits.BitAnswer.{BitAnswer}
-use Rattle.verdict.specs.declared.bits.BitAnswer.TheVariants.{AllBits, NotBit, Refused as NotTested}
 use Rattle.verdict.specs.Counts.{counts}
+use Rattle.layout.specs.Questions.{Answer}
+use Rattle.verdict.specs.Bits.{not_bit}
 
 -- ---- the plain check
 
@@ -29,10 +27,10 @@ joined cpi (Accepted n) (Failed Fld row₂ m) = Failed Fld (32 * cpi + row₂) (
 joined cpi (Accepted n) (Accepted m) = Accepted (counts (n.bin + m.bin) (n.fld + m.fld))
 
 -- of the check as it is called: a call that is refused for one is refused for the other, too, with the same number and place
-abbrev pub joined_answer : ℕ → CheckAnswer → CheckAnswer → CheckAnswer
-joined_answer cpi (Refused r) w = Refused r
-joined_answer cpi (Judged v) (Refused r) = Refused r
-joined_answer cpi (Judged v) (Judged w) = Judged (joined cpi v w)
+abbrev pub joined_answer : ℕ → Answer Verdict → Answer Verdict → Answer Verdict
+joined_answer cpi (Err r) w = Err r
+joined_answer cpi (Ok v) (Err r) = Err r
+joined_answer cpi (Ok v) (Ok w) = Ok (joined cpi v w)
 
 -- ---- the failing row alone, without its counts
 
@@ -60,18 +58,18 @@ earlier (at Fld row) none = at Fld row
 -- ---- the bit test
 
 -- column c of cycle d of the first batch, and of the second, as the larger batch has it
-abbrev pub in_first : ℕ → ℕ → ℕ → BitAnswer
-in_first cpi c d = NotBit (column_at (2 * cpi) c d) c d
+abbrev pub in_first : ℕ → ℕ → ℕ → Answer (Option NotBit)
+in_first cpi c d = not_bit (column_at (2 * cpi) c d) c d
 
-abbrev pub in_second : ℕ → ℕ → ℕ → BitAnswer
-in_second cpi c d = NotBit (column_at (2 * cpi) c (cpi + d)) c (cpi + d)
+abbrev pub in_second : ℕ → ℕ → ℕ → Answer (Option NotBit)
+in_second cpi c d = not_bit (column_at (2 * cpi) c (cpi + d)) c (cpi + d)
 
 -- all bits where both are; else the smaller place by column, and in one column the first batch's
-abbrev pub joined_bits : ℕ → BitAnswer → BitAnswer → BitAnswer
-joined_bits cpi (NotTested r) w = NotTested r
-joined_bits cpi AllBits (NotTested r) = NotTested r
-joined_bits cpi AllBits AllBits = AllBits
-joined_bits cpi AllBits (NotBit y e f) = in_second cpi e f
-joined_bits cpi (NotBit x c d) (NotTested r) = NotTested r
-joined_bits cpi (NotBit x c d) AllBits = in_first cpi c d
-joined_bits cpi (NotBit x c d) (NotBit y e f) = cond (leb c e) (in_first cpi c d) (in_second cpi e f)
+abbrev pub joined_bits : ℕ → Answer (Option NotBit) → Answer (Option NotBit) → Answer (Option NotBit)
+joined_bits cpi (Err r) w = Err r
+joined_bits cpi (Ok None) (Err r) = Err r
+joined_bits cpi (Ok None) (Ok None) = Ok None
+joined_bits cpi (Ok None) (not_bit y e f) = in_second cpi e f
+joined_bits cpi (not_bit x c d) (Err r) = Err r
+joined_bits cpi (not_bit x c d) (Ok None) = in_first cpi c d
+joined_bits cpi (not_bit x c d) (not_bit y e f) = cond (leb c e) (in_first cpi c d) (in_second cpi e f)

@@ -1,16 +1,14 @@
 -- Two batches into one (document 02, request 8), clause by clause: of a call of `merge` that was answered with yes, and the batch that it
 -- left. Laws/Merging proves it of every such call.
 -- Assumes nothing.
-use Rattle.std.specs.Prelude.{◌≡◌, ◌↔◌, true, List, ℕ, ◌+◌, ◌*◌, ◌^◌, ◌≤◌, ◌<◌, length, get_or}
+use Rattle.std.specs.Prelude.{◌≡◌, ◌↔◌, true, List, ℕ, ◌+◌, ◌*◌, ◌^◌, ◌≤◌, ◌<◌, length, get_or, None, Ok}
 use Rattle.field.specs.Gf.{zero}
-use Rattle.layout.specs.declared.Asked.TheVariants.{Yes}
 use Rattle.layout.specs.Batch.{column_at, batch_words}
 use Rattle.layout.specs.Questions.{Left}
 use Rattle.circuit.specs.declared.Relation.{Relation}
 use Rattle.circuit.specs.Batched.{batch_row}
 use Rattle.circuit.specs.Valid.{validated}
 use Rattle.strict.specs.declared.Known.{Known}
-use Rattle.verdict.specs.declared.bits.BitAnswer.TheVariants.{AllBits}
 use Rattle.verdict.specs.Row.{element_at}
 use Rattle.verdict.specs.Check.{judged, checked, known_checked}
 use Rattle.verdict.specs.Bits.{bit_tested}
@@ -50,7 +48,7 @@ pub record Judgement (cpi : ℕ) (first second batch : List ℕ) : Type 0 where
   pub failure : (listing : List ℕ) → failure_of (judged (2 * cpi) listing batch)
       ≡ earlier (failure_of (judged cpi listing first)) (moved cpi (failure_of (judged cpi listing second)))
   -- and over a listing in order that is so by the numbers of its rows: a row of the first comes before every row of the second
-  pub numbers : (listing : List ℕ) → ((i : ℕ) → get_or listing i 0 < 2 ^ 32) → validated listing ≡ Yes
+  pub numbers : (listing : List ℕ) → ((i : ℕ) → get_or listing i 0 < 2 ^ 32) → validated listing ≡ Ok tt
       → (rel : Relation) (row row₂ : ℕ) → failure_of (judged cpi listing first) ≡ at rel row → row < batch_row rel cpi row₂
 
 -- ---- the bit test
@@ -58,7 +56,7 @@ pub record Judgement (cpi : ℕ) (first second batch : List ℕ) : Type 0 where
 pub record Bits (cpi : ℕ) (first second batch : List ℕ) : Type 0 where
   pub answer : bit_tested (2 * cpi) batch ≡ joined_bits cpi (bit_tested cpi first) (bit_tested cpi second)
   -- all bits exactly when both are
-  pub all : (bit_tested (2 * cpi) batch ≡ AllBits) ↔ ((bit_tested cpi first ≡ AllBits) × (bit_tested cpi second ≡ AllBits))
+  pub all : (bit_tested (2 * cpi) batch ≡ Ok None) ↔ ((bit_tested cpi first ≡ Ok None) × (bit_tested cpi second ≡ Ok None))
 
 -- ---- the filler, where it refuses neither: the merge of the filled batches is the filling of the merge
 

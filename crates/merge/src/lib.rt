@@ -11,7 +11,7 @@ ghost use Rattle.merge.specs.Calls.{differs, sizes_asked, merge_asked, merge_cal
 ghost use Rattle.merge.specs.Parts.{Parts};
 
 use field::Gf128;
-use layout::{Asked, ROW_WORDS, Refusal};
+use layout::{Question, ROW_WORDS, Refusal};
 
 fn differ_at(first: &[u64], second: &[u64], column: usize) -> bool
     requires { (2 * column + 1 < length first.now) × (2 * column + 1 < length second.now) }
@@ -38,46 +38,46 @@ fn first_differing(first: &[u64], second: &[u64], start: usize, end: usize) -> u
 }
 
 // Questions 1 of either size, 19, and 2 of all three lengths.
-fn ask_sizes(first_cpi: usize, first: usize, second_cpi: usize, second: usize, room: usize) -> Asked
+fn ask_sizes(first_cpi: usize, first: usize, second_cpi: usize, second: usize, room: usize) -> Result<(), Refusal>
     ensures { result ≡ sizes_asked first_cpi first second_cpi second room }
 {
     if !layout::is_allowed(first_cpi) {
-        return Asked::No(layout::refused(1));
+        return Err(Question::BatchSize.refused());
     }
     if !layout::is_allowed(second_cpi) {
-        return Asked::No(layout::refused(1));
+        return Err(Question::BatchSize.refused());
     }
     if first_cpi != second_cpi {
-        return Asked::No(layout::refused(19));
+        return Err(Question::MergeSizes.refused());
     }
     if 256 < 2 * first_cpi {
-        return Asked::No(layout::refused(19));
+        return Err(Question::MergeSizes.refused());
     }
     if first != ROW_WORDS * first_cpi {
-        return Asked::No(layout::refused(2));
+        return Err(Question::BatchLength.refused());
     }
     if second != ROW_WORDS * first_cpi {
-        return Asked::No(layout::refused(2));
+        return Err(Question::BatchLength.refused());
     }
     if room != ROW_WORDS * (2 * first_cpi) {
-        return Asked::No(layout::refused(2));
+        return Err(Question::BatchLength.refused());
     }
-    Asked::Yes
+    Ok(())
 }
 
 // And then 20, whose place is a column of a given batch.
-fn ask(first_cpi: usize, first: &[u64], second_cpi: usize, second: &[u64], room: usize) -> Asked
+fn ask(first_cpi: usize, first: &[u64], second_cpi: usize, second: &[u64], room: usize) -> Result<(), Refusal>
     ensures { result ≡ merge_asked first_cpi first.now second_cpi second.now room }
 {
     match ask_sizes(first_cpi, first.len(), second_cpi, second.len(), room) {
-        Asked::No(r) => Asked::No(r),
-        Asked::Yes => {
+        Err(r) => Err(r),
+        Ok(()) => {
             let end = 4096 * first_cpi;
             let place = first_differing(first, second, 2048 * first_cpi, end);
             if place < end {
-                return Asked::No(Refusal { number: 20, place });
+                return Err(Refusal { question: Question::PublicColumns, place });
             }
-            Asked::Yes
+            Ok(())
         }
     }
 }
@@ -147,16 +147,16 @@ pub fn merge(
     second_cpi: usize,
     second: &[u64],
     batch: &mut [u64],
-) -> Asked
+) -> Result<(), Refusal>
     ensures { ◌≡◌ {A = Called} (record { answer = result; batch = batch.new })
         (merge_called first_cpi first.now second_cpi second.now batch.old) }
 {
     let asked = ask(first_cpi, first, second_cpi, second, batch.len());
     match asked {
-        Asked::No(r) => Asked::No(r),
-        Asked::Yes => {
+        Err(r) => Err(r),
+        Ok(()) => {
             write_batch(first_cpi, first, second, batch);
-            Asked::Yes
+            Ok(())
         }
     }
 }

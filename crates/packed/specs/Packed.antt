@@ -1,17 +1,14 @@
 -- Packed words: 64 columns of a cycle a word, the lowest column in the lowest bit. In cycle order, column c of cycle d is bit c % 64 of
 -- word 32 · d + c / 64.
 -- Assumes nothing.
-use Rattle.std.specs.Prelude.{ℕ, zero, suc, ◌+◌, ◌*◌, ◌/◌, ◌%◌, ◌^◌, Bool, true, cond, not, ◌&&◌, List, length, ◌==◌, nat_lt, slice_index}
+use Rattle.std.specs.Prelude.{ℕ, zero, suc, ◌+◌, ◌*◌, ◌/◌, ◌%◌, ◌^◌, Bool, true, cond, not, ◌&&◌, List, length, ◌==◌, nat_lt, slice_index, Err, Ok, false}
 use Rattle.base.specs.Lists.{from}
 use Rattle.field.specs.Gf.{is_bit}
-use Rattle.layout.specs.declared.Refusal.{Refusal}
-use Rattle.layout.specs.declared.Asked.{Asked}
-use Rattle.layout.specs.declared.Asked.TheVariants.{Yes, No}
+use Rattle.layout.specs.declared.questions.Refusal.{Refusal}
 use Rattle.layout.specs.Batch.{batch_asked}
-use Rattle.layout.specs.Questions.{no, if_yes}
+use Rattle.layout.specs.Questions.{no, if_yes, Answer, Asked}
 use Rattle.verdict.specs.Row.{element_at}
-use Rattle.packed.specs.declared.Packing.{Packing}
-use Rattle.packed.specs.declared.Packing.TheVariants.{Bits, NotBits, Refused}
+use Rattle.layout.specs.declared.questions.Question.TheVariants.{PackedLength}
 
 -- n numbers one above the other, a bit apart: f o + 2 · f (o + 1) + 4 · f (o + 2) + ..
 unfoldable pub stacked : (ℕ → ℕ) → ℕ → ℕ → ℕ
@@ -48,22 +45,22 @@ named_bits cpi batch = bits_from batch 0 (960 * cpi) && bits_from batch (1024 * 
 
 -- question 18, of the number of a packed slice's words
 abbrev pub room_asked : ℕ → ℕ → Asked
-room_asked cpi room = cond (room == 32 * cpi) Yes (No (no 18 0))
+room_asked cpi room = cond (room == 32 * cpi) (Ok tt) (Err (no PackedLength 0))
 
 -- questions 1, 2 and 18: a batch of so many words, and room for so many
 unfoldable pub pack_asked : ℕ → ℕ → ℕ → Asked
-pack_asked cpi words room = if_yes No (batch_asked cpi words) (room_asked cpi room)
+pack_asked cpi words room = if_yes Err (batch_asked cpi words) (room_asked cpi room)
 
 -- the call: the answer, and the packed slice afterwards
 pub record NamedCalled : Type 0 where
-  pub answer : Packing
+  pub answer : Answer Bool
   pub out : List ℕ
 
-abbrev pub answer_of : Bool → Packing
-answer_of bits = cond bits Bits NotBits
+abbrev pub answer_of : Bool → Answer Bool
+answer_of bits = cond bits (Ok true) (Ok false)
 
 abbrev pub not_packed : List ℕ → Refusal → NamedCalled
-not_packed out r = record { answer = Refused r; out = out }
+not_packed out r = record { answer = Err r; out = out }
 
 unfoldable pub named_called : ℕ → List ℕ → List ℕ → NamedCalled
 named_called cpi batch out =

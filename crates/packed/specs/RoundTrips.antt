@@ -1,9 +1,8 @@
 -- What packed storage keeps (document 02, request 4), once for every batch size: each step has an inverse, and nothing is lost between
 -- them.
 -- Assumes nothing.
-use Rattle.std.specs.Prelude.{◌≡◌, ℕ, ◌+◌, ◌*◌, ◌<◌, ◌≤◌, true, List, length, slice_index}
+use Rattle.std.specs.Prelude.{◌≡◌, ℕ, ◌+◌, ◌*◌, ◌<◌, ◌≤◌, true, List, length, slice_index, Ok}
 use Rattle.base.specs.Bits.{bit_at}
-use Rattle.layout.specs.declared.Asked.TheVariants.{Yes}
 use Rattle.layout.specs.Questions.{Called}
 use Rattle.layout.specs.Batch.{batch_words}
 use Rattle.verdict.specs.Row.{element_at, as_bit, bits_of}
@@ -12,7 +11,7 @@ use Rattle.packed.specs.Storage.{bit_in, Fit, packed, unpacked, by_cycle, by_bat
 
 -- a call that was answered with yes, and what it left
 abbrev pub Left : Called → List ℕ → Type 0
-Left c made = c ≡ record { answer = Yes; batch = made }
+Left c made = c ≡ record { answer = Ok tt; batch = made }
 
 -- the columns below one_col of a batch are those of another, and its public columns those of a third
 pub record Joins (cpi : ℕ) (batch lower public : List ℕ) : Type 0 where

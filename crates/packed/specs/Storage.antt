@@ -2,15 +2,14 @@
 -- bit x is batch column x; in cycle order bit 2,048 · d + c is column c of cycle d. From the one to the other the bits go by the
 -- layout's mapping, and back by its way back.
 -- Assumes nothing.
-use Rattle.std.specs.Prelude.{ℕ, ◌+◌, ◌*◌, ◌/◌, ◌%◌, ◌^◌, ◌<◌, Bool, cond, List, length, ◌==◌, nat_lt, slice_index}
+use Rattle.std.specs.Prelude.{ℕ, ◌+◌, ◌*◌, ◌/◌, ◌%◌, ◌^◌, ◌<◌, Bool, cond, List, length, ◌==◌, nat_lt, slice_index, Err, Ok}
 use Rattle.base.specs.Lists.{from}
 use Rattle.base.specs.Bits.{digit, word, bit_at}
-use Rattle.layout.specs.declared.Asked.{Asked}
-use Rattle.layout.specs.declared.Asked.TheVariants.{Yes, No}
-use Rattle.layout.specs.Questions.{no, if_yes, Called, after}
+use Rattle.layout.specs.Questions.{no, if_yes, Called, after, Asked}
 use Rattle.layout.specs.Batch.{allowed, column_at}
 use Rattle.verdict.specs.Row.{element_at, as_bit, bits_of}
 use Rattle.packed.specs.Packed.{bits_from, room_asked, pack_asked}
+use Rattle.layout.specs.declared.questions.Question.TheVariants.{BatchSize, LowerBits, PackedLength}
 
 -- ---- bits in words of 64
 
@@ -71,7 +70,7 @@ lower_bits cpi batch = bits_from batch 0 (2048 * cpi)
 -- questions 1, 2, 18 and 17
 unfoldable pub store_asked : ℕ → List ℕ → ℕ → Asked
 store_asked cpi batch room =
-    if_yes No (pack_asked cpi (length batch) room) (cond (lower_bits cpi batch) Yes (No (no 17 0)))
+    if_yes Err (pack_asked cpi (length batch) room) (cond (lower_bits cpi batch) (Ok tt) (Err (no LowerBits 0)))
 
 unfoldable pub pack_called : ℕ → List ℕ → List ℕ → Called
 pack_called cpi batch out = after (store_asked cpi batch (length out)) (packed cpi batch) out
@@ -85,7 +84,7 @@ unpack_called cpi words batch = after (pack_asked cpi (length batch) (length wor
 
 -- questions 1 and 18, of the slice that is read and of the one that is written
 unfoldable pub order_asked : ℕ → ℕ → ℕ → Asked
-order_asked cpi read written = cond (allowed cpi) (cond (read == 32 * cpi) (room_asked cpi written) (No (no 18 0))) (No (no 1 0))
+order_asked cpi read written = cond (allowed cpi) (cond (read == 32 * cpi) (room_asked cpi written) (Err (no PackedLength 0))) (Err (no BatchSize 0))
 
 unfoldable pub to_cycles_called : ℕ → List ℕ → List ℕ → Called
 to_cycles_called cpi words out = after (order_asked cpi (length words) (length out)) (by_cycle cpi words) out

@@ -14,7 +14,7 @@ ghost use Rattle.std.specs.Prelude.{◌≡◌, ◌<◌, length, ◌==◌};
 ghost use Rattle.packed.specs.Packed.{answer_of, pack_asked, NamedCalled, named_called};
 ghost use Rattle.packed.specs.Named.{Named, NamedIn};
 
-use layout::{Asked, Refusal};
+use layout::{Question, Refusal};
 
 // Whether the columns that were packed are bits.
 #[derive(Clone, Copy)]
@@ -75,47 +75,47 @@ fn pack(cpi: usize, batch: &[u64], out: &mut [u64]) -> u64
     pack_large(cpi, batch, out)
 }
 
-fn answer(bad: u64) -> Packing
+fn answer(bad: u64) -> Result<bool, Refusal>
     ensures { result ≡ answer_of (bad == 0) }
 {
     if bad == 0 {
-        Packing::Bits
+        Ok(true)
     } else {
-        Packing::NotBits
+        Ok(false)
     }
 }
 
 // Questions 1, 2 and 18.
-fn ask(cpi: usize, words: usize, room: usize) -> Asked
+fn ask(cpi: usize, words: usize, room: usize) -> Result<(), Refusal>
     ensures { result ≡ pack_asked cpi words room }
 {
     match layout::ask_batch(cpi, words) {
-        Asked::No(r) => Asked::No(r),
-        Asked::Yes => {
+        Err(r) => Err(r),
+        Ok(()) => {
             if room != 32 * cpi {
-                return Asked::No(layout::refused(18));
+                return Err(Question::PackedLength.refused());
             }
-            Asked::Yes
+            Ok(())
         }
     }
 }
 
 // The words of every cycle that hold columns which rows name, in cycle order: questions 1, 2 and 18.
-pub fn pack_named(cpi: usize, batch: &[u64], out: &mut [u64]) -> Packing
+pub fn pack_named(cpi: usize, batch: &[u64], out: &mut [u64]) -> Result<bool, Refusal>
     ensures { ◌≡◌ {A = NamedCalled} (record { answer = result; out = out.new }) (named_called cpi batch.now out.old) }
 {
     match ask(cpi, batch.len(), out.len()) {
-        Asked::No(r) => Packing::Refused(r),
-        Asked::Yes => answer(pack(cpi, batch, out)),
+        Err(r) => Err(r),
+        Ok(()) => answer(pack(cpi, batch, out)),
     }
 }
 
 // The same of a batch of one cycle, whose shape stands apart: who has but one cycle need not carry the others.
-pub fn pack_row(batch: &[u64], out: &mut [u64]) -> Packing
+pub fn pack_row(batch: &[u64], out: &mut [u64]) -> Result<bool, Refusal>
     ensures { ◌≡◌ {A = NamedCalled} (record { answer = result; out = out.new }) (named_called 1 batch.now out.old) }
 {
     match ask(1, batch.len(), out.len()) {
-        Asked::No(r) => Packing::Refused(r),
-        Asked::Yes => answer(pack_one(batch, out)),
+        Err(r) => Err(r),
+        Ok(()) => answer(pack_one(batch, out)),
     }
 }

@@ -9,7 +9,7 @@ use crate::ask;
 use crate::one::pack_words;
 use crate::order::{Order, put_into};
 use crate::unpack::lay_words;
-use layout::Asked;
+use layout::{Question, Refusal};
 
 // A column that is no bit is refused, and `out` must then be as it came: the words are made apart from it, in batch order.
 fn hand_over(order: Order, cpi: usize, batch: &[u64], made: &mut [u64], out: &mut [u64]) -> bool
@@ -54,23 +54,23 @@ fn hand(order: Order, cpi: usize, batch: &[u64], out: &mut [u64]) -> bool
 }
 
 // Questions 1, 2, 18 and 17.
-fn store(order: Order, cpi: usize, batch: &[u64], out: &mut [u64]) -> Asked
+fn store(order: Order, cpi: usize, batch: &[u64], out: &mut [u64]) -> Result<(), Refusal>
     ensures { ◌≡◌ {A = Called} (record { answer = result; batch = out.new })
         (store_called order cpi batch.now out.old) }
 {
     match ask(cpi, batch.len(), out.len()) {
-        Asked::No(r) => Asked::No(r),
-        Asked::Yes => {
+        Err(r) => Err(r),
+        Ok(()) => {
             if !hand(order, cpi, batch, out) {
-                return Asked::No(layout::refused(17));
+                return Err(Question::LowerBits.refused());
             }
-            Asked::Yes
+            Ok(())
         }
     }
 }
 
 // A batch in batch order: bit j of word k is batch column 64 k + j.
-pub fn pack(cpi: usize, batch: &[u64], out: &mut [u64]) -> Asked
+pub fn pack(cpi: usize, batch: &[u64], out: &mut [u64]) -> Result<(), Refusal>
     ensures { ◌≡◌ {A = Called} (record { answer = result; batch = out.new })
         (pack_called cpi batch.now out.old) }
 {
@@ -78,7 +78,7 @@ pub fn pack(cpi: usize, batch: &[u64], out: &mut [u64]) -> Asked
 }
 
 // A batch straight in cycle order: column c of cycle d is bit 2048 d + c.
-pub fn pack_cycles(cpi: usize, batch: &[u64], out: &mut [u64]) -> Asked
+pub fn pack_cycles(cpi: usize, batch: &[u64], out: &mut [u64]) -> Result<(), Refusal>
     ensures { ◌≡◌ {A = Called} (record { answer = result; batch = out.new })
         (pack_cycles_called cpi batch.now out.old) }
 {
@@ -86,50 +86,50 @@ pub fn pack_cycles(cpi: usize, batch: &[u64], out: &mut [u64]) -> Asked
 }
 
 // Words in batch order, back into the columns below one_col of a batch; its public columns stay. Questions 1, 2 and 18.
-pub fn unpack(cpi: usize, words: &[u64], batch: &mut [u64]) -> Asked
+pub fn unpack(cpi: usize, words: &[u64], batch: &mut [u64]) -> Result<(), Refusal>
     ensures { ◌≡◌ {A = Called} (record { answer = result; batch = batch.new })
         (unpack_called cpi words.now batch.old) }
 {
     match ask(cpi, batch.len(), words.len()) {
-        Asked::No(r) => Asked::No(r),
-        Asked::Yes => {
+        Err(r) => Err(r),
+        Ok(()) => {
             lay_words(words, batch);
-            Asked::Yes
+            Ok(())
         }
     }
 }
 
 // Questions 1 and 18, of the words that are read and of those that are written.
-fn ask_order(cpi: usize, read: usize, written: usize) -> Asked
+fn ask_order(cpi: usize, read: usize, written: usize) -> Result<(), Refusal>
     ensures { result ≡ order_asked cpi read written }
 {
     if !layout::is_allowed(cpi) {
-        return Asked::No(layout::refused(1));
+        return Err(Question::BatchSize.refused());
     }
     if read != 32 * cpi {
-        return Asked::No(layout::refused(18));
+        return Err(Question::PackedLength.refused());
     }
     if written != 32 * cpi {
-        return Asked::No(layout::refused(18));
+        return Err(Question::PackedLength.refused());
     }
-    Asked::Yes
+    Ok(())
 }
 
-fn rearrange(order: Order, cpi: usize, words: &[u64], out: &mut [u64]) -> Asked
+fn rearrange(order: Order, cpi: usize, words: &[u64], out: &mut [u64]) -> Result<(), Refusal>
     ensures { ◌≡◌ {A = Called} (record { answer = result; batch = out.new })
         (rearrange_called order cpi words.now out.old) }
 {
     match ask_order(cpi, words.len(), out.len()) {
-        Asked::No(r) => Asked::No(r),
-        Asked::Yes => {
+        Err(r) => Err(r),
+        Ok(()) => {
             put_into(order, cpi, words, out);
-            Asked::Yes
+            Ok(())
         }
     }
 }
 
 // From batch order into cycle order.
-pub fn to_cycles(cpi: usize, words: &[u64], out: &mut [u64]) -> Asked
+pub fn to_cycles(cpi: usize, words: &[u64], out: &mut [u64]) -> Result<(), Refusal>
     ensures { ◌≡◌ {A = Called} (record { answer = result; batch = out.new })
         (to_cycles_called cpi words.now out.old) }
 {
@@ -137,7 +137,7 @@ pub fn to_cycles(cpi: usize, words: &[u64], out: &mut [u64]) -> Asked
 }
 
 // From cycle order into batch order.
-pub fn to_batch(cpi: usize, words: &[u64], out: &mut [u64]) -> Asked
+pub fn to_batch(cpi: usize, words: &[u64], out: &mut [u64]) -> Result<(), Refusal>
     ensures { ◌≡◌ {A = Called} (record { answer = result; batch = out.new })
         (to_batch_called cpi words.now out.old) }
 {

@@ -1,15 +1,14 @@
 -- The line that an answer is printed as (document 01, "Makers and readers"; document 02, request 7), in bytes of ASCII.
 -- Assumes nothing.
-use Rattle.std.specs.Prelude.{List, ◌++◌, ℕ}
+use Rattle.std.specs.Prelude.{List, ◌++◌, ℕ, Err, Ok}
 use Rattle.base.specs.Text.{ascii}
 use Rattle.text.specs.Digits.{decimal}
 use Rattle.circuit.specs.declared.Relation.{Relation}
 use Rattle.verdict.specs.declared.Counts.{Counts}
 use Rattle.verdict.specs.declared.Verdict.{Verdict}
 use Rattle.verdict.specs.declared.Verdict.TheVariants.{Accepted, Failed}
-use Rattle.verdict.specs.declared.CheckAnswer.{CheckAnswer}
-use Rattle.verdict.specs.declared.CheckAnswer.TheVariants.{Judged, Refused}
 use Rattle.page.specs.Lines.{relation_text}
+use Rattle.layout.specs.Questions.{Answer}
 
 abbrev pub failed_text : Relation → List ℕ
 failed_text relation = ascii "failed " ++ relation_text relation ++ ascii " row="
@@ -21,6 +20,6 @@ abbrev pub verdict_line : Verdict → List ℕ
 verdict_line (Accepted n) = ascii "accepted " ++ counts_text n
 verdict_line (Failed relation row n) = failed_text relation ++ decimal row ++ ascii " " ++ counts_text n
 
-abbrev pub answer_line : CheckAnswer → List ℕ
-answer_line (Judged v) = verdict_line v
-answer_line (Refused r) = ascii "refused " ++ decimal r.number ++ ascii "\n"
+abbrev pub answer_line : Answer Verdict → List ℕ
+answer_line (Ok v) = verdict_line v
+answer_line (Err r) = ascii "refused " ++ decimal r.number ++ ascii "\n"

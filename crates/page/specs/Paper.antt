@@ -1,21 +1,17 @@
 -- What a bench page shows, for the reader who holds it beside document 02, request 1: statements, which Laws proves.
 -- Assumes nothing.
-use Rattle.std.specs.Prelude.{◌≡◌, false, List, ◌∷◌, ℕ, ◌+◌, ◌*◌, ◌-◌, ◌%◌, ◌^◌, ◌<◌, ◌≤◌, length, get_or, take, drop}
+use Rattle.std.specs.Prelude.{◌≡◌, false, List, ◌∷◌, ℕ, ◌+◌, ◌*◌, ◌-◌, ◌%◌, ◌^◌, ◌<◌, ◌≤◌, length, get_or, take, drop, Ok}
 use Rattle.base.specs.Text.{blanks, left}
 use Rattle.text.specs.Digits.{right, hex}
 use Rattle.field.specs.Gf.{value}
-use Rattle.layout.specs.declared.ColumnAnswer.TheVariants.{At as AtColumn}
 use Rattle.layout.specs.Batch.{mapped}
 use Rattle.layout.specs.Segments.{segment_name}
 use Rattle.circuit.specs.declared.Relation.{Relation}
-use Rattle.circuit.specs.declared.search.Found.TheVariants.{At}
 use Rattle.circuit.specs.Words.{side_of, coefficient_of}
-use Rattle.circuit.specs.Found.{found}
-use Rattle.circuit.specs.declared.batch.CycleRowAnswer.TheVariants.{At as In}
+use Rattle.circuit.specs.Found.{found, place_at}
 use Rattle.circuit.specs.Rows.{Sides}
-use Rattle.circuit.specs.Batched.{batch_row, unmapped_row}
+use Rattle.circuit.specs.Batched.{batch_row, unmapped_row, cycle_row}
 use Rattle.verdict.specs.Row.{cycle_of, holds}
-use Rattle.page.specs.declared.BytesAnswer.TheVariants.{Of}
 use Rattle.page.specs.Lines.{side_text, exponent_text, head_line, term_lines}
 use Rattle.page.specs.Pages.{page_bytes, pages, line_count, bytes_for, laid, laid_out}
 
@@ -35,7 +31,7 @@ pub record Blanks (line : List ℕ) : Type 0 where
 pub record TermShown (cpi : ℕ) (batch : List ℕ) (d w : ℕ) (line : List ℕ) : Type 0 where
   pub side : take 1 line ≡ side_text (side_of w)
   -- the batch column that `map_z_col` answers
-  pub column : (b : ℕ) → mapped 4096 cpi (w % 2 ^ 12) d ≡ AtColumn b → take 7 (drop 2 line) ≡ right 7 b
+  pub column : (b : ℕ) → mapped 4096 cpi (w % 2 ^ 12) d ≡ Ok b → take 7 (drop 2 line) ≡ right 7 b
   pub segment : take 9 (drop 10 line) ≡ left 9 (segment_name (w % 2 ^ 12))
   pub exponent : take 3 (drop 20 line) ≡ exponent_text (coefficient_of w)
   -- the digits of the column's element in that cycle, which is what the check reads for the term where its coefficient is not zero
@@ -47,7 +43,7 @@ pub record Shown (cpi : ℕ) (listing batch : List ℕ) (rel : Relation) (n d : 
   -- the row's words: its mark, and from there its terms
   pub start : ℕ
   pub end : ℕ
-  pub place : found listing rel n ≡ At start end
+  pub place : found listing rel n ≡ place_at start end
   -- whole pages of 60 lines of 60 characters, enough of them for a line to each word, and one less is not enough
   pub count : ℕ
   pub whole : length page ≡ 60 * 60 * count
@@ -64,9 +60,9 @@ pub record RowShown (cpi : ℕ) (listing batch : List ℕ) (rel : Relation) (b :
   pub number : ℕ
   pub sides : Sides
   -- cycle and row are those that `unmap_row` answers
-  pub back : unmapped_row cpi rel b ≡ In cycle number
+  pub back : unmapped_row cpi rel b ≡ cycle_row cycle number
   pub fails : holds (cycle_of cpi batch cycle) sides ≡ false
   -- so many bytes are to be lent; the head has the verdict's batch row, and the lines are those of the terms of the row that fails
-  pub bytes : bytes_for listing rel number ≡ Of (page_bytes (line_count sides))
+  pub bytes : bytes_for listing rel number ≡ Ok (page_bytes (line_count sides))
   pub page : (there : List ℕ) → length there ≡ page_bytes (line_count sides)
       → laid_out cpi listing batch rel number cycle there ≡ laid (pages (head_line rel b ∷ term_lines cpi batch cycle sides))

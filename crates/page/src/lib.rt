@@ -14,8 +14,8 @@ ghost use Rattle.page.specs.Pages.{Laid, page_bytes, pages, sides_at, bytes_for,
 ghost use Rattle.page.specs.Promises.{InBatch, RowAt};
 
 use circuit::Relation;
-use circuit::search::{Found, rows_a_cycle};
-use layout::{Asked, Refusal};
+use circuit::search::rows_a_cycle;
+use layout::{Question, Refusal};
 
 // How many bytes the pages of a row take.
 #[derive(Clone, Copy)]
@@ -32,12 +32,12 @@ fn bytes_of_lines(lines: usize) -> usize
 }
 
 // How many bytes a caller lends for the pages of a row: questions 6 to 10 and 13.
-pub fn page_bytes(listing: &[u32], relation: Relation, row: usize) -> BytesAnswer
+pub fn page_bytes(listing: &[u32], relation: Relation, row: usize) -> Result<usize, Refusal>
     ensures { result ≡ bytes_for listing.now relation row }
 {
     match circuit::reader::read_row(listing, relation, row) {
-        Found::At { start, end } => BytesAnswer::Of(bytes_of_lines(end - start)),
-        Found::Refused(r) => BytesAnswer::Refused(r),
+        Found::At { start, end } => Ok(bytes_of_lines(end - start)),
+        Err(r) => Err(r),
     }
 }
 
@@ -74,23 +74,23 @@ fn lay_row(
     row: usize,
     cycle: usize,
     page: &mut [u8],
-) -> Asked
+) -> Result<(), Refusal>
     requires { (allowed cpi ≡ true) × (length batch.now ≡ batch_words cpi) }
     ensures { ◌≡◌ {A = Laid} (record { answer = result; page = page.new })
         (laid_at cpi listing.now batch.now relation row cycle page.old
         (row_read listing.now relation row)) }
 {
     match circuit::reader::read_row(listing, relation, row) {
-        Found::Refused(r) => Asked::No(r),
+        Err(r) => Err(r),
         Found::At { start, end } => {
             if page.len() != bytes_of_lines(end - start) {
-                return Asked::No(layout::refused(16));
+                return Err(Question::PageLength.refused());
             }
             if cpi <= cycle {
-                return Asked::No(layout::refused(15));
+                return Err(Question::CycleRange.refused());
             }
             write_pages(page, cpi, listing, batch, relation, row, cycle, start, end);
-            Asked::Yes
+            Ok(())
         }
     }
 }
@@ -104,12 +104,12 @@ pub fn lay_out(
     row: usize,
     cycle: usize,
     page: &mut [u8],
-) -> Asked
+) -> Result<(), Refusal>
     ensures { ◌≡◌ {A = Laid} (record { answer = result; page = page.new })
         (laid_out cpi listing.now batch.now relation row cycle page.old) }
 {
     match layout::ask_batch(cpi, batch.len()) {
-        Asked::No(r) => Asked::No(r),
-        Asked::Yes => lay_row(cpi, listing, batch, relation, row, cycle, page),
+        Err(r) => Err(r),
+        Ok(()) => lay_row(cpi, listing, batch, relation, row, cycle, page),
     }
 }

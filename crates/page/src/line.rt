@@ -5,7 +5,8 @@ ghost use Rattle.text.specs.Put.{Put, Placed};
 ghost use Rattle.page.specs.Line.{failed_text, counts_text, verdict_line, answer_line};
 
 use circuit::Relation;
-use verdict::{CheckAnswer, Counts, Verdict};
+use verdict::{Counts, Verdict};
+use layout::Refusal;
 
 // Places a part at an index where there is room for it, and gives the index behind it. The next five do the same with their texts; three
 // of them start at 0.
@@ -66,13 +67,13 @@ fn place_verdict(out: &mut [u8], v: Verdict) -> usize
     }
 }
 
-fn place_answer(out: &mut [u8], answer: CheckAnswer) -> usize
+fn place_answer(out: &mut [u8], answer: Result<Verdict, Refusal>) -> usize
     requires { 86 ≤ length out.old }
     ensures { Placed 0 (answer_line answer) out.old out.new result }
 {
     match answer {
-        CheckAnswer::Judged(v) => place_verdict(out, v),
-        CheckAnswer::Refused(r) => {
+        Ok(v) => place_verdict(out, v),
+        Err(r) => {
             let number = place(out, 0, b"refused ");
             let end = place_decimal(out, number, r.number as usize);
             place(out, end, b"\n")
@@ -81,7 +82,7 @@ fn place_answer(out: &mut [u8], answer: CheckAnswer) -> usize
 }
 
 // Puts the line of an answer at an index, and gives the index behind it. Where it does not fit nothing is put, and the index stays.
-pub fn put_answer(out: &mut [u8], at: usize, answer: CheckAnswer) -> usize
+pub fn put_answer(out: &mut [u8], at: usize, answer: Result<Verdict, Refusal>) -> usize
     ensures { Put at (answer_line answer) out.old out.new result }
 {
     let mut line = [b' '; 88];

@@ -13,7 +13,6 @@ ghost use Rattle.page.specs.Lines.{relation_text, side_text, exponent_text, head
 ghost use Rattle.page.specs.Promises.{InBatch, Short, word_line, word_lines};
 
 use circuit::{Coefficient, Relation, Side, Word};
-use layout::ColumnAnswer;
 
 // A text left-aligned in a width.
 fn put_in(page: &mut [u8], at: usize, width: usize, part: &[u8]) -> usize
@@ -103,8 +102,8 @@ fn put_term(
         × (result ≡ at + 60) }
 {
     match layout::map_z_col(cpi, column, cycle) {
-        ColumnAnswer::At(place) => put_placed(page, at, batch, side, k, column, place),
-        ColumnAnswer::Refused(_) => at,
+        Ok(place) => put_placed(page, at, batch, side, k, column, place),
+        Err(_) => at,
     }
 }
 

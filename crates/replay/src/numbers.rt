@@ -1,7 +1,7 @@
 // Does the product give the answer that stands in a vector of numbers alone? Their order is in the vector file's first lines.
 use compare::makers::compare_read_branch;
 use field::Gf128;
-use layout::{ColumnAnswer, CycleColumnAnswer, GeometryAnswer, Refusal};
+use layout::Refusal;
 
 #[derive(Clone, Copy)]
 pub enum Numbers {
@@ -39,10 +39,10 @@ fn refused_as(r: Refusal, n: u64) -> bool {
     n == 0x8000000000000000 + r.number as u64
 }
 
-fn column_is(answer: ColumnAnswer, n: u64) -> bool {
+fn column_is(answer: Result<usize, Refusal>, n: u64) -> bool {
     match answer {
-        ColumnAnswer::At(c) => c as u64 == n,
-        ColumnAnswer::Refused(r) => refused_as(r, n),
+        Ok(c) => c as u64 == n,
+        Err(r) => refused_as(r, n),
     }
 }
 
@@ -63,19 +63,19 @@ fn any_column(n: [u64; 8]) -> bool {
 fn way_back(n: [u64; 8]) -> bool {
     match layout::unmap_col(n[0] as usize, n[1] as usize) {
         CycleColumnAnswer::At { column, cycle } => (column as u64 == n[2]) & (cycle as u64 == n[3]),
-        CycleColumnAnswer::Refused(r) => refused_as(r, n[2]),
+        Err(r) => refused_as(r, n[2]),
     }
 }
 
 fn geometry(n: [u64; 8]) -> bool {
     match layout::geometry(n[0] as usize) {
-        GeometryAnswer::Of(g) => {
+        Ok(g) => {
             (g.w_cols as u64 == n[1])
                 & (g.m as u64 == n[2])
                 & (g.one_col as u64 == n[3])
                 & (g.w128 as u64 == n[4])
         }
-        GeometryAnswer::Refused(r) => refused_as(r, n[1]),
+        Err(r) => refused_as(r, n[1]),
     }
 }
 

@@ -3,7 +3,7 @@ use crate::words::{all_are, has_part, part, same_words};
 use compare::check::{by_relation, compare_apply, compare_bit_test};
 use compare::fills::compare_first_unmet;
 use compare::reader::compare_reader;
-use verdict::{CheckAnswer, Counts, Verdict};
+use verdict::{Counts, Verdict};
 
 #[derive(Clone, Copy)]
 pub enum Reading {
@@ -35,8 +35,8 @@ fn verdict_is(v: Verdict, n: [u64; 8]) -> bool {
 fn check_in(n: [u64; 8], batch: &[u64], scratch: &mut [u64]) -> bool {
     let listing = circuit::build_circuit();
     match judge::check_row(n[0] as usize, &listing, batch, scratch) {
-        CheckAnswer::Judged(v) => verdict_is(v, n) & all_are(scratch, 0),
-        CheckAnswer::Refused(r) => (n[1] == 3) & (r.number as u64 == n[2]) & all_are(scratch, 1),
+        Ok(v) => verdict_is(v, n) & all_are(scratch, 0),
+        Err(r) => (n[1] == 3) & (r.number as u64 == n[2]) & all_are(scratch, 1),
     }
 }
 

@@ -1,7 +1,7 @@
 -- Demand 3 of the mission, clause by clause, of a batch as it is lent. "Accepted" and "fails" are the two verdicts of the check as it is
 -- called, questions included.
 -- Assumes nothing.
-use Rattle.std.specs.Prelude.{◌≡◌, ◌↔◌, Bool, true, false, not, List, ℕ, ◌+◌, ◌*◌, ◌^◌, ◌<◌, length, get_or}
+use Rattle.std.specs.Prelude.{◌≡◌, ◌↔◌, Bool, true, false, not, List, ℕ, ◌+◌, ◌*◌, ◌^◌, ◌<◌, length, get_or, Err, Ok}
 use Rattle.base.specs.Bits.{digit, word}
 use Rattle.field.specs.declared.Gf128.{Gf128}
 use Rattle.field.specs.Gf.{one, is_bit}
@@ -9,14 +9,13 @@ use Rattle.layout.specs.Columns.{ONE-COL, RS1, RS2, T1, T2, SUB, IS-ARITH, HALT,
 use Rattle.layout.specs.Batch.{batch_words}
 use Rattle.verdict.specs.declared.Verdict.{Verdict}
 use Rattle.verdict.specs.declared.Verdict.TheVariants.{Accepted, Failed}
-use Rattle.verdict.specs.declared.CheckAnswer.{CheckAnswer}
-use Rattle.verdict.specs.declared.CheckAnswer.TheVariants.{Judged, Refused}
 use Rattle.verdict.specs.Row.{element_at, cycle_of, bits_of}
 use Rattle.verdict.specs.Check.{checked}
 use Rattle.step.specs.Step.{opcode, funct3}
 use Rattle.step.specs.Branch.{branch_holds}
 use Rattle.step.specs.Derived.{derived}
 use Rattle.step.specs.Filling.{SameElsewhere, filling, count_fillings, filled}
+use Rattle.layout.specs.Questions.{Answer}
 
 -- ---- what stands in the batch: 0 or 1 in the given columns, 1 in the one column, and anything in the derived and the public ones
 
@@ -33,13 +32,13 @@ abbrev pub accepted_verdict : Verdict → Bool
 accepted_verdict (Accepted n) = true
 accepted_verdict (Failed relation row n) = false
 
-abbrev pub accepts : CheckAnswer → Bool
-accepts (Judged v) = accepted_verdict v
-accepts (Refused r) = false
+abbrev pub accepts : Answer Verdict → Bool
+accepts (Ok v) = accepted_verdict v
+accepts (Err r) = false
 
-abbrev pub fails : CheckAnswer → Bool
-fails (Judged v) = not (accepted_verdict v)
-fails (Refused r) = false
+abbrev pub fails : Answer Verdict → Bool
+fails (Ok v) = not (accepted_verdict v)
+fails (Err r) = false
 
 -- ---- what the adder is set to for a branch: T1 is RS1, T2 the complement of RS2 (all 64 bits), subtract and arithmetic are set
 
@@ -57,7 +56,7 @@ TakesBranch b = (opcode b ≡ 0x63) × (branch_holds (funct3 b) (word b RS1 64) 
 -- the strict conditions.
 module _ (listing : List ℕ) (Conditions : (ℕ → Bool) → Gf128 → Type 0) (cpi : ℕ) (batch scratch : List ℕ) where
   -- the check's answer on a batch
-  abbrev pub answer : List ℕ → CheckAnswer
+  abbrev pub answer : List ℕ → Answer Verdict
   answer u = (checked cpi listing u scratch).answer
 
   -- is the filler's batch accepted?

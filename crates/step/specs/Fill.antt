@@ -1,16 +1,15 @@
 -- The filler as it is called: questions 1, 2, 11 and 12, and where all are answered with yes the filling that demand 3 speaks of.
 -- Assumes nothing.
-use Rattle.std.specs.Prelude.{Bool, cond, not, ◌&&◌, true, List, ◌≡◌, ℕ, ◌*◌, ◌≤◌, leb, length}
+use Rattle.std.specs.Prelude.{Bool, cond, not, ◌&&◌, true, List, ◌≡◌, ℕ, ◌*◌, ◌≤◌, leb, length, Err, Ok}
 use Rattle.base.specs.Tests.{first_from}
 use Rattle.field.specs.Gf.{one, same}
-use Rattle.layout.specs.declared.Asked.{Asked}
-use Rattle.layout.specs.declared.Asked.TheVariants.{Yes, No}
 use Rattle.layout.specs.Batch.{allowed, batch_words, batch_asked}
-use Rattle.layout.specs.Questions.{no, if_yes, after, Called}
+use Rattle.layout.specs.Questions.{no, if_yes, after, Called, Asked}
 use Rattle.verdict.specs.Row.{element_at}
 use Rattle.verdict.specs.Bits.{above_one}
 use Rattle.step.specs.Derived.{derived_in}
 use Rattle.step.specs.Filling.{filled}
+use Rattle.layout.specs.declared.questions.Question.TheVariants.{GivenBits, OneColumn}
 
 -- a given column that is above 1: what question 11 looks for
 abbrev pub faulty : ℕ → List ℕ → ℕ → Bool
@@ -24,12 +23,12 @@ first_faulty cpi batch = first_from (faulty cpi batch) 0 (2048 * cpi)
 abbrev pub columns_asked : ℕ → List ℕ → Asked
 columns_asked cpi batch =
     cond (leb (2048 * cpi) (first_faulty cpi batch))
-    (cond (same (element_at batch (2048 * cpi)) one) Yes
-    (No (no 12 0)))
-    (No (no 11 (first_faulty cpi batch)))
+    (cond (same (element_at batch (2048 * cpi)) one) (Ok tt)
+    (Err (no OneColumn 0)))
+    (Err (no GivenBits (first_faulty cpi batch)))
 
 unfoldable pub fill_asked : ℕ → List ℕ → Asked
-fill_asked cpi batch = if_yes No (batch_asked cpi (length batch)) (columns_asked cpi batch)
+fill_asked cpi batch = if_yes Err (batch_asked cpi (length batch)) (columns_asked cpi batch)
 
 unfoldable pub called : ℕ → List ℕ → Called
 called cpi batch = after (fill_asked cpi batch) (filled cpi batch) batch

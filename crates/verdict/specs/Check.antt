@@ -1,12 +1,10 @@
 -- The check: the constraints of all cycles in their order, the first that does not hold, and how many were tested in each relation.
 -- Assumes nothing.
-use Rattle.std.specs.Prelude.{Bool, cond, List, [], ◌∷◌, ◌++◌, map, ℕ, length, replicate}
+use Rattle.std.specs.Prelude.{Bool, cond, List, [], ◌∷◌, ◌++◌, map, ℕ, length, replicate, Err, Ok}
 use Rattle.base.specs.Lists.{from_each}
 use Rattle.field.specs.declared.Gf128.{Gf128}
-use Rattle.layout.specs.declared.Asked.{Asked}
-use Rattle.layout.specs.declared.Asked.TheVariants.{Yes, No}
 use Rattle.layout.specs.Batch.{batch_asked, scratch_fits}
-use Rattle.layout.specs.Questions.{no, if_yes}
+use Rattle.layout.specs.Questions.{no, if_yes, Answer, Asked}
 use Rattle.circuit.specs.declared.Relation.TheVariants.{Bin, Fld}
 use Rattle.circuit.specs.Rows.{Row, of_relation}
 use Rattle.circuit.specs.Parse.{rows_of}
@@ -17,10 +15,9 @@ use Rattle.strict.specs.Known.{listing_of}
 use Rattle.verdict.specs.declared.Counts.{Counts}
 use Rattle.verdict.specs.declared.Verdict.{Verdict}
 use Rattle.verdict.specs.declared.Verdict.TheVariants.{Accepted, Failed}
-use Rattle.verdict.specs.declared.CheckAnswer.{CheckAnswer}
-use Rattle.verdict.specs.declared.CheckAnswer.TheVariants.{Judged, Refused}
 use Rattle.verdict.specs.Row.{cycle_of, holds}
 use Rattle.verdict.specs.Counts.{none, counted}
+use Rattle.layout.specs.declared.questions.Question.TheVariants.{ScratchLength}
 
 -- a row to be tested in a cycle: what document 01 calls a cycle-and-mark pair
 pub record Constraint : Type 0 where
@@ -59,21 +56,21 @@ judged cpi listing batch = run (met (cycle_of cpi batch)) none (constraints cpi 
 -- questions 1, 2, 5, and those on the listing; of batch and scratch the number of words
 unfoldable pub asked : ℕ → List ℕ → ℕ → ℕ → Asked
 asked cpi listing words room =
-    if_yes No (batch_asked cpi words) (cond (scratch_fits room) (validated listing) (No (no 5 0)))
+    if_yes Err (batch_asked cpi words) (cond (scratch_fits room) (validated listing) (Err (no ScratchLength 0)))
 
 -- the answer and the scratch afterwards: a verdict leaves zeros, a refusal what was there
 pub record Checked : Type 0 where
-  pub answer : CheckAnswer
+  pub answer : Answer Verdict
   pub scratch : List ℕ
 
 abbrev pub after : Asked → Verdict → List ℕ → Checked
-after Yes v scratch = record { answer = Judged v; scratch = replicate (length scratch) 0 }
-after (No r) v scratch = record { answer = Refused r; scratch = scratch }
+after (Ok _) v scratch = record { answer = Ok v; scratch = replicate (length scratch) 0 }
+after (Err r) v scratch = record { answer = Err r; scratch = scratch }
 
 unfoldable pub checked : ℕ → List ℕ → List ℕ → List ℕ → Checked
 checked cpi listing batch scratch =
     after (asked cpi listing (length batch) (length scratch)) (judged cpi listing batch) scratch
 
 -- the same over a listing that is known by name, which is in order, and with no scratch: questions 1 and 2
-unfoldable pub known_checked : Known → ℕ → List ℕ → CheckAnswer
-known_checked k cpi batch = if_yes Refused (batch_asked cpi (length batch)) (Judged (judged cpi (listing_of k) batch))
+unfoldable pub known_checked : Known → ℕ → List ℕ → Answer Verdict
+known_checked k cpi batch = if_yes Err (batch_asked cpi (length batch)) (Ok (judged cpi (listing_of k) batch))

@@ -7,18 +7,14 @@ ghost use Rattle.base.specs.Tests.{first_from};
 ghost use Rattle.verdict.specs.Bits.{above_one, placed, bit_tested};
 
 use field::Gf128;
-use layout::{Asked, CycleColumnAnswer, Refusal};
+use layout::Refusal;
 
-// All bits, or the smallest batch column above 1, which is this column of this cycle.
-#[derive(Clone, Copy)]
-pub enum BitAnswer {
-    AllBits,
-    NotBit {
-        at: usize,
-        column: usize,
-        cycle: usize,
-    },
-    Refused(Refusal),
+// A batch column above 1, which is this column of this cycle.
+#[derive(Clone, Copy, Debug, PartialEq, Eq)]
+pub struct NotBit {
+    pub at: usize,
+    pub column: usize,
+    pub cycle: usize,
 }
 
 fn is_bit_at(batch: &[u64], at: usize) -> bool
@@ -43,30 +39,27 @@ fn first_above(batch: &[u64], columns: usize) -> usize
     i
 }
 
-fn place(cpi: usize, at: usize) -> BitAnswer
+fn place(cpi: usize, at: usize) -> Result<Option<NotBit>, Refusal>
     ensures { result ≡ placed at (unmapped cpi at) }
 {
-    let found = layout::unmap_col(cpi, at);
-    match found {
-        CycleColumnAnswer::At { column, cycle } => BitAnswer::NotBit { at, column, cycle },
-        CycleColumnAnswer::Refused(r) => BitAnswer::Refused(r),
-    }
+    let found = layout::unmap_col(cpi, at)?;
+    Ok(Some(NotBit {
+        at,
+        column: found.column,
+        cycle: found.cycle,
+    }))
 }
 
-// Questions 1 and 2, and then the smallest batch column below one_col that is above 1.
-pub fn bit_test(cpi: usize, batch: &[u64]) -> BitAnswer
+// Questions 1 and 2, and then the smallest batch column below one_col that is above 1, or none where all are bits.
+pub fn bit_test(cpi: usize, batch: &[u64]) -> Result<Option<NotBit>, Refusal>
     ensures { result ≡ bit_tested cpi batch.now }
 {
-    match layout::ask_batch(cpi, batch.len()) {
-        Asked::No(r) => BitAnswer::Refused(r),
-        Asked::Yes => {
-            let columns = 2048 * cpi;
-            let at = first_above(batch, columns);
-            if at < columns {
-                place(cpi, at)
-            } else {
-                BitAnswer::AllBits
-            }
-        }
+    layout::ask_batch(cpi, batch.len())?;
+    let columns = 2048 * cpi;
+    let at = first_above(batch, columns);
+    if at < columns {
+        place(cpi, at)
+    } else {
+        Ok(None)
     }
 }

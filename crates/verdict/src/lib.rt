@@ -14,9 +14,9 @@ ghost use Rattle.verdict.specs.Check.{Checked, asked, judged, checked, known_che
 
 use crate::rows::row_sums;
 use circuit::Relation;
-use circuit::search::Found;
+use circuit::search::Place;
 use field::Gf128;
-use layout::{Asked, Refusal};
+use layout::{Question, Refusal};
 use strict::Known;
 
 // How many cycle-and-mark pairs were tested, the failing one included: those of bin, and those of fld, which is 0 until bin has passed.
@@ -57,19 +57,6 @@ pub struct Sums {
     pub c: Gf128,
 }
 
-#[derive(Clone, Copy)]
-pub enum ApplyAnswer {
-    Of(Sums),
-    Refused(Refusal),
-}
-
-// A refusal is no verdict.
-#[derive(Clone, Copy)]
-pub enum CheckAnswer {
-    Judged(Verdict),
-    Refused(Refusal),
-}
-
 // Writes 0 in every word: so the check leaves its scratch.
 pub fn clear(s: &mut [u64])
     ensures { s.new ≡ replicate (length s.old) 0 }
@@ -78,33 +65,30 @@ pub fn clear(s: &mut [u64])
 }
 
 // Questions 1, 2, 5, and 6 to 10.
-fn ask(cpi: usize, listing: &[u32], words: usize, room: usize) -> Asked
+fn ask(cpi: usize, listing: &[u32], words: usize, room: usize) -> Result<(), Refusal>
     ensures { result ≡ asked cpi listing.now words room }
 {
-    match layout::ask_batch(cpi, words) {
-        Asked::No(r) => Asked::No(r),
-        Asked::Yes => {
-            if !layout::scratch_fits(room) {
-                return Asked::No(layout::refused(5));
-            }
-            circuit::questions::validate(listing)
-        }
+    layout::ask_batch(cpi, words)?;
+    if !layout::scratch_fits(room) {
+        return Err(Question::ScratchLength.refused());
     }
+    circuit::questions::validate(listing)
 }
 
 // The check of a batch of cpi cycles against a listing. No word of the lent scratch is read; a verdict leaves it zero, and a refusal as it
 // came.
-pub fn check_row(cpi: usize, listing: &[u32], batch: &[u64], scratch: &mut [u64]) -> CheckAnswer
+pub fn check_row(
+    cpi: usize,
+    listing: &[u32],
+    batch: &[u64],
+    scratch: &mut [u64],
+) -> Result<Verdict, Refusal>
     ensures { ◌≡◌ {A = Checked} (record { answer = result; scratch = scratch.new })
         (checked cpi listing.now batch.now scratch.old) }
 {
-    match ask(cpi, listing, batch.len(), scratch.len()) {
-        Asked::No(r) => CheckAnswer::Refused(r),
-        Asked::Yes => {
-            clear(scratch);
-            CheckAnswer::Judged(walk::walk(cpi, listing, batch))
-        }
-    }
+    ask(cpi, listing, batch.len(), scratch.len())?;
+    clear(scratch);
+    Ok(walk::walk(cpi, listing, batch))
 }
 
 // The verdict over the listing that is named, of a batch whose size is in order.
@@ -125,31 +109,30 @@ fn walk_known(which: Known, cpi: usize, batch: &[u64]) -> Verdict
 }
 
 // The check against a listing that is named, which is known to be in order: questions 1 and 2 are all there is to ask.
-pub fn check_known(which: Known, cpi: usize, batch: &[u64]) -> CheckAnswer
+pub fn check_known(which: Known, cpi: usize, batch: &[u64]) -> Result<Verdict, Refusal>
     ensures { result ≡ known_checked which cpi batch.now }
 {
-    match layout::ask_batch(cpi, batch.len()) {
-        Asked::No(r) => CheckAnswer::Refused(r),
-        Asked::Yes => CheckAnswer::Judged(walk_known(which, cpi, batch)),
-    }
+    layout::ask_batch(cpi, batch.len())?;
+    Ok(walk_known(which, cpi, batch))
 }
 
 // The sums of the row that was found, where the cycle is one of the batch.
-fn apply_row(cpi: usize, listing: &[u32], batch: &[u64], found: Found, cycle: usize) -> ApplyAnswer
+fn apply_row(
+    cpi: usize,
+    listing: &[u32],
+    batch: &[u64],
+    found: Result<Place, Refusal>,
+    cycle: usize,
+) -> Result<Sums, Refusal>
     requires { (cpi ≤ 256) × ((length batch.now ≡ batch_words cpi) × RowFound listing.now found) }
     ensures { result ≡ applied_at cpi listing.now batch.now cycle found }
 {
-    match found {
-        Found::Refused(r) => ApplyAnswer::Refused(r),
-        Found::At { start, end: _ } => {
-            if cpi <= cycle {
-                return ApplyAnswer::Refused(layout::refused(15));
-            }
-            let row = row_sums(cpi, listing, start + 1, batch, cycle);
-            let sums = row.sums;
-            ApplyAnswer::Of(sums)
-        }
+    let place = found?;
+    if cpi <= cycle {
+        return Err(Question::CycleRange.refused());
     }
+    let row = row_sums(cpi, listing, place.start + 1, batch, cycle);
+    Ok(row.sums)
 }
 
 // Questions 6 to 10, 13 and 15.
@@ -160,20 +143,18 @@ fn apply_listed(
     relation: Relation,
     row: usize,
     cycle: usize,
-) -> ApplyAnswer
+) -> Result<Sums, Refusal>
     requires { (cpi ≤ 256) × (length batch.now ≡ batch_words cpi) }
     ensures { result ≡ applied_to cpi listing.now batch.now relation row cycle }
 {
-    match circuit::questions::validate(listing) {
-        Asked::No(r) => ApplyAnswer::Refused(r),
-        Asked::Yes => apply_row(
-            cpi,
-            listing,
-            batch,
-            circuit::search::find_row(listing, relation, row),
-            cycle,
-        ),
-    }
+    circuit::questions::validate(listing)?;
+    apply_row(
+        cpi,
+        listing,
+        batch,
+        circuit::search::find_row(listing, relation, row),
+        cycle,
+    )
 }
 
 // The sums of one row of the listing in one cycle: questions 1, 2, 6 to 10, 13 and 15.
@@ -184,11 +165,9 @@ pub fn apply(
     relation: Relation,
     row: usize,
     cycle: usize,
-) -> ApplyAnswer
+) -> Result<Sums, Refusal>
     ensures { result ≡ applied cpi listing.now batch.now relation row cycle }
 {
-    match layout::ask_batch(cpi, batch.len()) {
-        Asked::No(r) => ApplyAnswer::Refused(r),
-        Asked::Yes => apply_listed(cpi, listing, batch, relation, row, cycle),
-    }
+    layout::ask_batch(cpi, batch.len())?;
+    apply_listed(cpi, listing, batch, relation, row, cycle)
 }

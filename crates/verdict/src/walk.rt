@@ -1,6 +1,5 @@
 // The loops of the check: relation, cycle, row.
-ghost use Rattle.std.specs.Prelude.{◌≡◌, true, ◌+◌, ◌*◌, ◌^◌, ◌<◌, ◌≤◌, length};
-ghost use Rattle.layout.specs.declared.Asked.TheVariants.{Yes};
+ghost use Rattle.std.specs.Prelude.{◌≡◌, true, ◌+◌, ◌*◌, ◌^◌, ◌<◌, ◌≤◌, length, Ok};
 ghost use Rattle.layout.specs.Batch.{allowed, batch_words};
 ghost use Rattle.circuit.specs.Found.{until};
 ghost use Rattle.circuit.specs.Batched.{batch_row};
@@ -107,7 +106,7 @@ fn walk_parts<'a>(cpi: usize, bin: &'a [u32], fld: &'a [u32], batch: &[u64]) -> 
 
 // The verdict on a batch whose size and listing are in order.
 pub fn walk(cpi: usize, listing: &[u32], batch: &[u64]) -> Verdict
-    requires { (allowed cpi ≡ true) × ((length batch.now ≡ batch_words cpi) × (validated listing.now ≡ Yes)) }
+    requires { (allowed cpi ≡ true) × ((length batch.now ≡ batch_words cpi) × (validated listing.now ≡ Ok tt)) }
     ensures { result ≡ judged cpi listing.now batch.now }
 {
     let split = first_fld(listing);

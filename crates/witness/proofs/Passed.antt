@@ -1,16 +1,16 @@
 -- What the questions of assembly have shown of them.
 -- Assumes nothing.
 use Rattle.std.proofs.Common.{◌≡◌, ℕ, ◌+◌, ◌*◌, ◌≤◌, eqb, List, length, arith, eqb-true}
-use Rattle.layout.specs.declared.Asked.TheVariants.{Yes}
 use Rattle.layout.specs.Batch.{batch_words}
 use Rattle.layout.specs.Laws.Questions.{answered, both_yes}
 use Rattle.layout.specs.Laws.Sizes.{allowed-range}
 use Rattle.witness.specs.Upper.{public_asked}
 use Rattle.witness.specs.Laws.Upper.{public-yes}
 use Rattle.witness.specs.Assembly.{assembly_asked, Lent}
+use Rattle.std.specs.Prelude.{Ok}
 
 -- all four questions were answered with yes
-pub all-passed : (cpi public : ℕ) (cycles batch : List ℕ) → assembly_asked cpi (length cycles) public (length batch) ≡ Yes
+pub all-passed : (cpi public : ℕ) (cycles batch : List ℕ) → assembly_asked cpi (length cycles) public (length batch) ≡ Ok tt
     → Lent cpi cycles × ((length batch ≡ batch_words cpi) × (4096 * cpi + 2 + public ≤ batch_words cpi))
 unfolding assembly_asked
 all-passed cpi public cycles batch e =

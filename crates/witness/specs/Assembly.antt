@@ -1,17 +1,16 @@
 -- Assembly: the witness columns of cpi cycles, lent cycle after cycle, and the public values in one batch.
 -- Assumes nothing.
-use Rattle.std.specs.Prelude.{◌≡◌, ℕ, ◌+◌, ◌*◌, ◌/◌, ◌%◌, true, cond, List, length, ◌==◌, slice_index}
+use Rattle.std.specs.Prelude.{◌≡◌, ℕ, ◌+◌, ◌*◌, ◌/◌, ◌%◌, true, cond, List, length, ◌==◌, slice_index, Err, Ok}
 use Rattle.base.specs.Lists.{from}
-use Rattle.layout.specs.declared.Asked.{Asked}
-use Rattle.layout.specs.declared.Asked.TheVariants.{Yes, No}
 use Rattle.layout.specs.Batch.{allowed, batch_words}
-use Rattle.layout.specs.Questions.{no, if_yes, Called, after}
+use Rattle.layout.specs.Questions.{no, if_yes, Called, after, Asked}
 use Rattle.witness.specs.Upper.{public_asked, batch_word}
+use Rattle.layout.specs.declared.questions.Question.TheVariants.{CyclesLength}
 
 -- questions 1 to 4, of the numbers of words: the cycles', the public values', the batch's
 unfoldable pub assembly_asked : ℕ → ℕ → ℕ → ℕ → Asked
 assembly_asked cpi cycles public batch =
-    if_yes No (public_asked cpi public batch) (cond (cycles == 4096 * cpi) Yes (No (no 4 0)))
+    if_yes Err (public_asked cpi public batch) (cond (cycles == 4096 * cpi) (Ok tt) (Err (no CyclesLength 0)))
 
 -- where batch column x stands among the lent columns: it is column x / cpi of cycle x % cpi, and a cycle lends 2,048 of them
 unfoldable pub lent_column : ℕ → ℕ → ℕ

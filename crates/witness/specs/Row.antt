@@ -4,8 +4,7 @@ use Rattle.std.specs.Prelude.{ℕ, ◌/◌, ◌%◌, Bool, cond, List, length, �
 use Rattle.base.specs.Bits.{digit}
 use Rattle.base.specs.Lists.{joined, from}
 use Rattle.base.specs.Blocks.{column_bit}
-use Rattle.layout.specs.declared.Asked.{Asked}
-use Rattle.layout.specs.Questions.{Called, after}
+use Rattle.layout.specs.Questions.{Called, after, Asked}
 use Rattle.layout.specs.Batch.{ROW-WORDS}
 use Rattle.witness.specs.declared.records.CycleRecord.{CycleRecord}
 use Rattle.witness.specs.declared.records.RomRow.{RomRow}

@@ -6,19 +6,19 @@ ghost use Rattle.witness.specs.Assembly.{assembly_asked, cycle_word, assembled, 
 ghost use Rattle.base.specs.Written.{Written};
 
 use crate::upper::{ask_public, write_upper};
-use layout::Asked;
+use layout::{Question, Refusal};
 
 // Questions 1 to 4, of the numbers of words.
-fn ask(cpi: usize, cycles: usize, public: usize, batch: usize) -> Asked
+fn ask(cpi: usize, cycles: usize, public: usize, batch: usize) -> Result<(), Refusal>
     ensures { result ≡ assembly_asked cpi cycles public batch }
 {
     match ask_public(cpi, public, batch) {
-        Asked::No(r) => Asked::No(r),
-        Asked::Yes => {
+        Err(r) => Err(r),
+        Ok(()) => {
             if cycles != 4096 * cpi {
-                return Asked::No(layout::refused(4));
+                return Err(Question::CyclesLength.refused());
             }
-            Asked::Yes
+            Ok(())
         }
     }
 }
@@ -60,16 +60,16 @@ fn assemble(cpi: usize, cycles: &[u64], public: &[u64], batch: &mut [u64])
 }
 
 // A no leaves the batch as it came; a yes leaves nothing of it.
-pub fn assemble_instance_z(cpi: usize, cycles: &[u64], public: &[u64], batch: &mut [u64]) -> Asked
+pub fn assemble_instance_z(cpi: usize, cycles: &[u64], public: &[u64], batch: &mut [u64]) -> Result<(), Refusal>
     ensures { ◌≡◌ {A = Called} (record { answer = result; batch = batch.new })
         (assembly_called cpi cycles.now public.now batch.old) }
 {
     let asked = ask(cpi, cycles.len(), public.len(), batch.len());
     match asked {
-        Asked::No(r) => Asked::No(r),
-        Asked::Yes => {
+        Err(r) => Err(r),
+        Ok(()) => {
             assemble(cpi, cycles, public, batch);
-            Asked::Yes
+            Ok(())
         }
     }
 }

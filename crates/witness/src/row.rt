@@ -12,7 +12,7 @@ ghost use Rattle.base.specs.Written.{Written};
 use crate::records::{CycleRecord, RomRow};
 use crate::upper::{ask_public, write_upper};
 use filler::derive::{GivenWords, derive, word_of};
-use layout::Asked;
+use layout::Refusal;
 
 // Six bits as a word, the first lowest.
 fn word_of_six(a: bool, b: bool, c: bool, d: bool, e: bool, f: bool) -> u64
@@ -180,17 +180,17 @@ fn write_row(words: &[u64], public: &[u64], row: &mut [u64])
 }
 
 // Questions 2 and 3: a row is a batch of one cycle. A no leaves the row as it came; a yes leaves nothing of it.
-pub fn witness_row(cycle: CycleRecord, rom: RomRow, public: &[u64], row: &mut [u64]) -> Asked
+pub fn witness_row(cycle: CycleRecord, rom: RomRow, public: &[u64], row: &mut [u64]) -> Result<(), Refusal>
     ensures { ◌≡◌ {A = Called} (record { answer = result; batch = row.new })
         (row_called cycle rom public.now row.old) }
 {
     let asked = ask_public(1, public.len(), row.len());
     match asked {
-        Asked::No(r) => Asked::No(r),
-        Asked::Yes => {
+        Err(r) => Err(r),
+        Ok(()) => {
             let words = row_words(cycle, rom);
             write_row(&words, public, row);
-            Asked::Yes
+            Ok(())
         }
     }
 }

@@ -3,7 +3,7 @@ ghost use Rattle.std.specs.Prelude.{◌≡◌, ◌+◌, ◌≤◌, length};
 ghost use Rattle.witness.specs.Upper.{public_fits, public_asked, upper_from};
 ghost use Rattle.base.specs.Written.{Written};
 
-use layout::Asked;
+use layout::{Question, Refusal};
 
 // Question 3: a public value has two words, and there is room for so many words at most.
 fn public_fits(words: usize, most: usize) -> bool
@@ -16,16 +16,16 @@ fn public_fits(words: usize, most: usize) -> bool
 }
 
 // Questions 1 to 3, of the numbers of words: the public values', the batch's.
-pub fn ask_public(cpi: usize, public: usize, batch: usize) -> Asked
+pub fn ask_public(cpi: usize, public: usize, batch: usize) -> Result<(), Refusal>
     ensures { result ≡ public_asked cpi public batch }
 {
     match layout::ask_batch(cpi, batch) {
-        Asked::No(r) => Asked::No(r),
-        Asked::Yes => {
+        Err(r) => Err(r),
+        Ok(()) => {
             if !public_fits(public, 4096 * cpi - 2) {
-                return Asked::No(layout::refused(3));
+                return Err(Question::PublicLength.refused());
             }
-            Asked::Yes
+            Ok(())
         }
     }
 }

@@ -5,11 +5,10 @@ use Rattle.std.proofs.Common.{ap, ap₂, arith, ltb-true, lit<}
 use Rattle.base.specs.Lists.{joined, from, from_each}
 use Rattle.base.specs.Laws.Tests.{both}
 use Rattle.circuit.specs.declared.Relation.{Relation}
-use Rattle.circuit.specs.declared.search.Found.TheVariants.{At}
 use Rattle.circuit.specs.Words.{is_mark}
 use Rattle.circuit.specs.Rows.{numbered, side_words, encode}
 use Rattle.circuit.specs.Circuit.{bin_families, fld_families, circuit_rows, circuit_words}
-use Rattle.circuit.specs.Found.{until, found}
+use Rattle.circuit.specs.Found.{until, found, place_at}
 use Rattle.circuit.specs.Reader.{row_of, row_read}
 use Rattle.circuit.specs.Laws.House.{in_order}
 use Rattle.page.specs.Pages.{page_count, page_bytes, line_count, sides_at, bytes_at, bytes_for}
@@ -73,14 +72,14 @@ few-behind (suc most) (w ∷ ws) (suc i) l h = by-test (is_mark w) h (few-behind
 
 -- ---- a row that is found
 
-pub row_opened : (rel : Relation) (n start end : ℕ) → found circuit_words rel n ≡ At start end → row_read circuit_words rel n ≡ At start end
+pub row_opened : (rel : Relation) (n start end : ℕ) → found circuit_words rel n ≡ place_at start end → row_read circuit_words rel n ≡ place_at start end
 row_opened rel n start end e = ap₂ row_of in_order e
 
 five-at-most : (lines : ℕ) → lines ≤ 300 → page_bytes lines ≤ 18000
 unfolding page_bytes page_count
 five-at-most lines h = omega arith
 
-pub five-pages : (rel : Relation) (n start end : ℕ) → found circuit_words rel n ≡ At start end → FivePages rel n
+pub five-pages : (rel : Relation) (n start end : ℕ) → found circuit_words rel n ≡ place_at start end → FivePages rel n
 unfolding bytes_for
 five-pages rel n start end e =
     record {

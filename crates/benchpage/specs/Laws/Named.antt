@@ -1,23 +1,20 @@
 -- The row that a failing answer names: it is in the house listing, its pages are few, and it does not hold.
 -- Assumes nothing.
-use Rattle.std.specs.Prelude.{◌≡◌, refl, Bool, true, false, cond, List, ℕ, ◌<◌, eqb, length}
+use Rattle.std.specs.Prelude.{◌≡◌, refl, Bool, true, false, cond, List, ℕ, ◌<◌, eqb, length, Err, Ok}
 use Rattle.std.proofs.Common.{sym, ap, ap₂, subst, ◌∙◌, arith, eqb-true}
 use Rattle.layout.specs.Batch.{allowed}
-use Rattle.layout.specs.Questions.{no}
+use Rattle.layout.specs.Questions.{no, Answer}
 use Rattle.layout.specs.Laws.Questions.{if_yes_lem}
 use Rattle.circuit.specs.declared.Relation.{Relation}
 use Rattle.circuit.specs.declared.Relation.TheVariants.{Bin, Fld}
-use Rattle.circuit.specs.declared.search.Found.TheVariants.{At}
 use Rattle.circuit.specs.Rows.{Sides}
 use Rattle.circuit.specs.Circuit.{circuit_words}
-use Rattle.circuit.specs.Found.{found}
+use Rattle.circuit.specs.Found.{found, place_at}
 use Rattle.circuit.specs.Batched.{batch_row}
 use Rattle.circuit.specs.Laws.House.{in_order}
 use Rattle.verdict.specs.declared.Counts.{Counts}
 use Rattle.verdict.specs.declared.Verdict.{Verdict}
 use Rattle.verdict.specs.declared.Verdict.TheVariants.{Accepted, Failed}
-use Rattle.verdict.specs.declared.CheckAnswer.{CheckAnswer}
-use Rattle.verdict.specs.declared.CheckAnswer.TheVariants.{Judged, Refused}
 use Rattle.verdict.specs.Row.{cycle_of, holds}
 use Rattle.strict.specs.declared.Known.TheVariants.{House}
 use Rattle.verdict.specs.Counts.{none}
@@ -29,6 +26,7 @@ use Rattle.cellprism.specs.Laws.Packing.{row-asked}
 use Rattle.benchpage.specs.Printed.{sides_in, sides_of}
 use Rattle.benchpage.specs.Promises.{FivePages}
 use Rattle.benchpage.specs.Laws.House.{house-words, row_opened, five-pages}
+use Rattle.layout.specs.declared.questions.Question.TheVariants.{BatchLength}
 
 pub record Named (bytes : List ℕ) (rel : Relation) (n : ℕ) : Type 0 where
   pub whole : length bytes ≡ 65536
@@ -46,7 +44,7 @@ unfolding allowed
 judged-named bytes rel n tested whole e =
     let f = failed-names 1 circuit_words (row_of bytes) refl house-words in_order e in
     let first = first-cycle rel f.cycle f.number n f.in-batch f.batch-row in
-    let place = subst (λ (k : ℕ). found circuit_words rel k ≡ At f.start f.end) first.1 f.place in
+    let place = subst (λ (k : ℕ). found circuit_words rel k ≡ place_at f.start f.end) first.1 f.place in
     record {
       whole = whole;
       few = five-pages rel n f.start f.end place;
@@ -56,16 +54,16 @@ judged-named bytes rel n tested whole e =
           ∙ f.fails;
     }
 
-verdict_of : CheckAnswer → Verdict
-verdict_of (Judged v) = v
-verdict_of (Refused r) = Accepted none
+verdict_of : Answer Verdict → Verdict
+verdict_of (Ok v) = v
+verdict_of (Err r) = Accepted none
 
-pub named : (bytes : List ℕ) (rel : Relation) (n : ℕ) (tested : Counts) → row_checked bytes ≡ Judged (Failed rel n tested) → Named bytes rel n
+pub named : (bytes : List ℕ) (rel : Relation) (n : ℕ) (tested : Counts) → row_checked bytes ≡ Ok (Failed rel n tested) → Named bytes rel n
 unfolding row_checked known_checked verdict_of
 named bytes rel n tested e = by-test (eqb (length bytes) 65536) refl e
   where
     by-test : (b : Bool) → eqb (length bytes) 65536 ≡ b
-        → cond b (known_checked House 1 (row_of bytes)) (Refused (no 2 0)) ≡ Judged (Failed rel n tested) → Named bytes rel n
+        → cond b (known_checked House 1 (row_of bytes)) (Err (no BatchLength 0)) ≡ Ok (Failed rel n tested) → Named bytes rel n
     by-test true t e =
-        judged-named bytes rel n tested (eqb-true (length bytes) 65536 t) (ap verdict_of (if_yes_lem Refused _ (row-asked bytes) ∙ e))
+        judged-named bytes rel n tested (eqb-true (length bytes) 65536 t) (ap verdict_of (if_yes_lem Err _ (row-asked bytes) ∙ e))
     by-test false t e = let z : ◌≡◌ {A = ℕ} 0 1 = cc in absurd (omega arith)

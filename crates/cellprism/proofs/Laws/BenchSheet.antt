@@ -1,6 +1,6 @@
 -- The bench sheet's one theorem: each line is a theorem of the crate that it speaks of.
 -- Assumes nothing.
-use Rattle.std.specs.Prelude.{◌≡◌, refl, Bool, true, ◌&&◌, List, [], ◌∷◌, ◌++◌, ℕ, ◌+◌, ◌-◌, ◌*◌, ◌^◌, ◌<◌, get_or}
+use Rattle.std.specs.Prelude.{◌≡◌, refl, Bool, true, ◌&&◌, List, [], ◌∷◌, ◌++◌, ℕ, ◌+◌, ◌-◌, ◌*◌, ◌^◌, ◌<◌, get_or, Ok}
 use Rattle.std.proofs.Common.{sym, ap, ap₂, ◌∙◌, arith, lit<}
 use Rattle.base.specs.Bits.{val}
 use Rattle.base.specs.Lists.{joined, from, from_each}
@@ -13,7 +13,6 @@ use Rattle.layout.specs.Questions.{Called}
 use Rattle.circuit.specs.Circuit.{circuit_words}
 use Rattle.verdict.specs.declared.Verdict.{Verdict}
 use Rattle.verdict.specs.declared.Verdict.TheVariants.{Accepted}
-use Rattle.verdict.specs.declared.CheckAnswer.TheVariants.{Judged}
 use Rattle.verdict.specs.Row.{element_at}
 use Rattle.verdict.specs.OverBits.{sum_bits}
 use Rattle.verdict.specs.Counts.{counts, rows, counts_of}
@@ -58,7 +57,7 @@ as_called {v = v} e g =
             rows_are = e;
             check = λ scratch room. ap (λ (k : Called). checked 1 circuit_words k.batch scratch) g.fill ∙ g.check scratch room;
           };
-      fill-check = filled-and-judged g ∙ ap (λ (k : Called). record { answer = Judged v; batch = k.batch }) (sym g.fill);
+      fill-check = filled-and-judged g ∙ ap (λ (k : Called). record { answer = Ok v; batch = k.batch }) (sym g.fill);
     }
 
 -- P6's row, and the computed tests of its columns

@@ -3,5 +3,5 @@
 use borrow.Author.Rules.{rules}
 use Rattle.cellprism.proofs.answer_word.Goals as goal
 
-pub returns-in-Refused : goal.returns-in-Refused
-returns-in-Refused c = rw c.in-Refused.is
+pub returns-in-Err : goal.returns-in-Err
+returns-in-Err c = rw c.in-Err.is

@@ -7,11 +7,10 @@ use borrow.Author.Rules.{rules}
 use borrow.Author.Tests.{eq-eqb, ne_eqb}
 use lib.ListN.{length}
 use Rattle.base.specs.Laws.Tests.{passed, refused}
-use Rattle.layout.specs.declared.Asked.{Asked}
-use Rattle.layout.specs.declared.Asked.TheVariants.{Yes, No}
-use Rattle.layout.specs.Questions.{after}
+use Rattle.layout.specs.Questions.{after, Asked}
 use Rattle.cellprism.specs.Bytes.{words_of, row_of, read_asked, read_called}
 use Rattle.cellprism.proofs.read_bytes.Goals as goal
+use Rattle.std.specs.Prelude.{Err, Ok}
 
 -- what the questions come to is the case
 told : (bytes there : List ℕ) (q : Asked) → q ≡ read_asked (length bytes) (length there)
@@ -22,17 +21,17 @@ told bytes there q e = ap (λ (q : Asked). after q (row_of bytes) there) e
 pub returns-then-bytes : goal.returns-then-bytes
 returns-then-bytes c =
     let a = c.args in
-    told a.bytes.now a.words.now _ (ap No c.refused.ensures ∙ refused _ _ _ (ne_eqb _ _ c.if-bytes.true))
+    told a.bytes.now a.words.now _ (ap Err c.refused.ensures ∙ refused _ _ _ (ne_eqb _ _ c.if-bytes.true))
 
 pub returns-then-words-ne-ROW_WORDS : goal.returns-then-words-ne-ROW_WORDS
 returns-then-words-ne-ROW_WORDS c =
     let a = c.args in
     told a.bytes.now a.words.now _
-    (ap No c.refused-then-words-ne-ROW_WORDS.ensures ∙ refused _ _ _ (ne_eqb _ _ c.if-words-ne-ROW_WORDS.true) ∙ passed _ _ _ (eq-eqb _ _ c.if-bytes.false))
+    (ap Err c.refused-then-words-ne-ROW_WORDS.ensures ∙ refused _ _ _ (ne_eqb _ _ c.if-words-ne-ROW_WORDS.true) ∙ passed _ _ _ (eq-eqb _ _ c.if-bytes.false))
 
 pub returns : goal.returns
 returns c =
     let a = c.args in
-    ap (λ (ws : List ℕ). record { answer = Yes; batch = ws })
+    ap (λ (ws : List ℕ). record { answer = Ok tt; batch = ws })
     (c.read_words.ensures ∙ ap (λ (n : ℕ). words_of n a.bytes.now) c.if-words-ne-ROW_WORDS.false)
-    ∙ told a.bytes.now a.words.now Yes (passed _ _ _ (eq-eqb _ _ c.if-words-ne-ROW_WORDS.false) ∙ passed _ _ _ (eq-eqb _ _ c.if-bytes.false))
+    ∙ told a.bytes.now a.words.now (Ok tt) (passed _ _ _ (eq-eqb _ _ c.if-words-ne-ROW_WORDS.false) ∙ passed _ _ _ (eq-eqb _ _ c.if-bytes.false))

@@ -1,13 +1,12 @@
 -- The way back: every row of 8,192 words has its 65,536 bytes, and their answer is the row's. So what is known of rows of words, as the
 -- bench sheet, is known of bytes.
 -- Assumes nothing.
-use Rattle.std.specs.Prelude.{◌≡◌, refl, Bool, true, ◌&&◌, List, [], ◌∷◌, ◌++◌, ℕ, zero, suc, ◌*◌, ◌/◌, ◌%◌, ◌^◌, ◌<◌, ltb, length}
+use Rattle.std.specs.Prelude.{◌≡◌, refl, Bool, true, ◌&&◌, List, [], ◌∷◌, ◌++◌, ℕ, zero, suc, ◌*◌, ◌/◌, ◌%◌, ◌^◌, ◌<◌, ltb, length, Err, Ok}
 use Rattle.std.proofs.Common.{sym, ap, ap₂, ◌∙◌, arith, ltb-true, eq-eqb}
 use Rattle.base.specs.Laws.Tests.{passed, both}
 use Rattle.layout.specs.Batch.{allowed, ROW-WORDS}
 use Rattle.layout.specs.Laws.Questions.{if_yes_lem, yes-batch}
 use Rattle.circuit.specs.Circuit.{circuit_words}
-use Rattle.verdict.specs.declared.CheckAnswer.TheVariants.{Judged, Refused}
 use Rattle.strict.specs.declared.Known.TheVariants.{House}
 use Rattle.verdict.specs.Check.{judged, known_checked}
 use Rattle.cellprism.specs.Bytes.{number_of, words_of}
@@ -43,9 +42,9 @@ words_back (w ∷ ws) h =
     let b = both (ltb w (2 ^ 64)) (words_fit ws) h in
     ap₂ (λ v vs. v ∷ vs) (spelled-number w (ltb-true w (2 ^ 64) b.0)) (words_back ws b.1)
 
-pub row-judged : (ws : List ℕ) → words_fit ws ≡ true → length ws ≡ ROW-WORDS → row_checked (bytes_of ws) ≡ Judged (judged 1 circuit_words ws)
+pub row-judged : (ws : List ℕ) → words_fit ws ≡ true → length ws ≡ ROW-WORDS → row_checked (bytes_of ws) ≡ Ok (judged 1 circuit_words ws)
 unfolding row_checked known_checked allowed
 row-judged ws h e =
     sym (passed _ _ _ (eq-eqb (length (bytes_of ws)) 65536 (bytes-length ws ∙ ap (λ n. 8 * n) e)))
     ∙ ap (known_checked House 1) (ap (λ n. words_of n (bytes_of ws)) (sym e) ∙ words_back ws h)
-    ∙ sym (if_yes_lem Refused _ (yes-batch 1 (length ws) refl e))
+    ∙ sym (if_yes_lem Err _ (yes-batch 1 (length ws) refl e))

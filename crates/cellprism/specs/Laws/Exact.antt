@@ -1,6 +1,6 @@
 -- The answer's word loses nothing but the counts of a failure.
 -- Assumes nothing.
-use Rattle.std.specs.Prelude.{◌≡◌, refl, Bool, true, false, cond, ◌&&◌, List, [], ◌∷◌, ◌++◌, ℕ, ◌<◌, ltb, eqb, length}
+use Rattle.std.specs.Prelude.{◌≡◌, refl, Bool, true, false, cond, ◌&&◌, List, [], ◌∷◌, ◌++◌, ℕ, ◌<◌, ltb, eqb, length, Err, Ok}
 use Rattle.std.proofs.Common.{sym, ap, subst, ◌∙◌, arith, ltb-true, length-append}
 use Rattle.base.specs.Lists.{joined, from, from_each}
 use Rattle.base.specs.Laws.Tests.{both}
@@ -12,7 +12,6 @@ use Rattle.circuit.specs.Circuit.{bin_families, fld_families, circuit_rows, circ
 use Rattle.circuit.specs.Parse.{rows_of}
 use Rattle.circuit.specs.Laws.House.{words-read}
 use Rattle.verdict.specs.declared.Verdict.{Verdict}
-use Rattle.verdict.specs.declared.CheckAnswer.TheVariants.{Judged, Refused}
 use Rattle.verdict.specs.Row.{cycle_of}
 use Rattle.strict.specs.declared.Known.TheVariants.{House}
 use Rattle.verdict.specs.Counts.{counts, none, rows}
@@ -26,6 +25,7 @@ use Rattle.cellprism.specs.Bytes.{words_of, row_of}
 use Rattle.cellprism.specs.Answer.{row_checked}
 use Rattle.cellprism.specs.Exact.{batch_row_of, Small, Exact}
 use Rattle.cellprism.specs.Laws.Packing.{row-asked}
+use Rattle.layout.specs.declared.questions.Question.TheVariants.{BatchLength}
 
 rows_fit : List Constraint → Bool
 rows_fit [] = true
@@ -79,15 +79,15 @@ pub exact : (bytes : List ℕ) → Exact (row_checked bytes)
 unfolding row_checked known_checked
 exact bytes = by-test (eqb (length bytes) 65536)
   where
-    by-test : (b : Bool) → Exact (cond b (known_checked House 1 (words_of ROW-WORDS bytes)) (Refused (no 2 0)))
-    by-test true = subst Exact (if_yes_lem Refused _ (row-asked bytes)) (judged-small (words_of ROW-WORDS bytes))
+    by-test : (b : Bool) → Exact (cond b (known_checked House 1 (words_of ROW-WORDS bytes)) (Err (no BatchLength 0)))
+    by-test true = subst Exact (if_yes_lem Err _ (row-asked bytes)) (judged-small (words_of ROW-WORDS bytes))
     by-test false = refl
 
 -- bin and fld are counted apart from bytes too
-pub row-counted : (bytes : List ℕ) (v : Verdict) → row_checked bytes ≡ Judged v → CountedApart 1 circuit_words (row_of bytes) v
+pub row-counted : (bytes : List ℕ) (v : Verdict) → row_checked bytes ≡ Ok v → CountedApart 1 circuit_words (row_of bytes) v
 unfolding row_checked
 row-counted bytes v = by-test (eqb (length bytes) 65536)
   where
-    by-test : (b : Bool) → cond b (known_checked House 1 (row_of bytes)) (Refused (no 2 0)) ≡ Judged v → CountedApart 1 circuit_words (row_of bytes) v
+    by-test : (b : Bool) → cond b (known_checked House 1 (row_of bytes)) (Err (no BatchLength 0)) ≡ Ok v → CountedApart 1 circuit_words (row_of bytes) v
     by-test true e = known-counted House 1 (row_of bytes) v e
     by-test false e = let z : ◌≡◌ {A = ℕ} 0 1 = cc in absurd (omega arith)

@@ -1,6 +1,6 @@
 -- The bytes of a row packed give the words that the short way judges.
 -- Assumes nothing.
-use Rattle.std.specs.Prelude.{◌≡◌, Bool, true, false, ◌&&◌, ℕ, zero, suc, ◌+◌, ◌*◌, ◌^◌, ◌<◌, length, take, drop, replicate}
+use Rattle.std.specs.Prelude.{◌≡◌, Bool, true, false, ◌&&◌, ℕ, zero, suc, ◌+◌, ◌*◌, ◌^◌, ◌<◌, length, take, drop, replicate, Ok}
 use Rattle.std.proofs.Math.Path.{refl, sym, ap, ap₂}
 use Rattle.std.proofs.Common.{subst, ◌∙◌, arith, lit<, get_or-drop, drop-drop}
 use Rattle.std.proofs.Math.Bool.{and-true}
@@ -12,7 +12,6 @@ use Rattle.std.proofs.Math.ListN.{get_or, get_or-eq_default}
 use Rattle.base.specs.Laws.Cases.{no_true}
 use Rattle.field.specs.declared.Gf128.{Gf128}
 use Rattle.field.specs.Gf.{one, same}
-use Rattle.layout.specs.declared.Asked.TheVariants.{Yes}
 use Rattle.layout.specs.Batch.{allowed, ROW-WORDS, batch_asked}
 use Rattle.layout.specs.Laws.Questions.{yes-batch}
 use Rattle.strict.specs.declared.Known.TheVariants.{House}
@@ -46,7 +45,7 @@ words-length (suc n) bytes = ap suc (words-length n (drop 8 bytes))
 pub row-length : (bytes : List ℕ) → length (row_of bytes) ≡ ROW-WORDS
 row-length bytes = words-length ROW-WORDS bytes
 
-pub row-asked : (bytes : List ℕ) → batch_asked 1 (length (row_of bytes)) ≡ Yes
+pub row-asked : (bytes : List ℕ) → batch_asked 1 (length (row_of bytes)) ≡ Ok tt
 unfolding allowed
 row-asked bytes = yes-batch 1 (length (row_of bytes)) refl (row-length bytes)
 

@@ -35,5 +35,5 @@ returns-in-Term c =
     let n = ap batch_number c.in-Term.is in
     omega (arith, c.side_kind.ensures, c.coefficient_number.ensures, n)
 
-pub returns-in-Refused : goal.returns-in-Refused
-returns-in-Refused c = c.refused_at.ensures ∙ sym (ap batch_number c.in-Refused.is)
+pub returns-in-Err : goal.returns-in-Err
+returns-in-Err c = c.refused_at.ensures ∙ sym (ap batch_number c.in-Err.is)

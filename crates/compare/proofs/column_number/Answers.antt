@@ -4,5 +4,5 @@ use borrow.Author.Rules.{rules}
 use Rattle.compare.specs.Numbers.{column_number}
 use Rattle.compare.proofs.column_number.Goals as goal
 
-pub returns-in-Refused : goal.returns-in-Refused
-returns-in-Refused c = c.refused_at.ensures ∙ sym (ap column_number c.in-Refused.is)
+pub returns-in-Err : goal.returns-in-Err
+returns-in-Err c = c.refused_at.ensures ∙ sym (ap column_number c.in-Err.is)

@@ -4,12 +4,12 @@ use borrow.Author.Rules.{rules}
 use Rattle.compare.specs.Numbers.{geometry_number}
 use Rattle.compare.proofs.compare_geometry.Goals as goal
 
-pub returns-in-Of : goal.returns-in-Of
-returns-in-Of c =
+pub returns-in-Ok : goal.returns-in-Ok
+returns-in-Ok c =
     c.geometry_part.ensures
-    ∙ ap (geometry_number c.args.part) (sym c.in-Of.is ∙ c.geometry-answer.ensures)
+    ∙ ap (geometry_number c.args.part) (sym c.in-Ok.is ∙ c.geometry-answer.ensures)
 
-pub returns-in-Refused : goal.returns-in-Refused
-returns-in-Refused c =
+pub returns-in-Err : goal.returns-in-Err
+returns-in-Err c =
     c.refused_at.ensures
-    ∙ ap (geometry_number c.args.part) (sym c.in-Refused.is ∙ c.geometry-answer.ensures)
+    ∙ ap (geometry_number c.args.part) (sym c.in-Err.is ∙ c.geometry-answer.ensures)

@@ -1,6 +1,6 @@
 -- Filling and checking promises what demand 3 says of acceptance: of a slice as it is lent, whose words are words.
 -- Assumes nothing.
-use Rattle.std.specs.Prelude.{◌≡◌, ◌↔◌, Bool, true, false, not, ◌&&◌, ℕ, ◌*◌, ◌^◌, ◌<◌, length, get_or}
+use Rattle.std.specs.Prelude.{◌≡◌, ◌↔◌, Bool, true, false, not, ◌&&◌, ℕ, ◌*◌, ◌^◌, ◌<◌, length, get_or, Err, Ok}
 use Rattle.std.proofs.Math.Path.{refl, sym, ap, subst, fun_ext}
 use Rattle.std.proofs.Common.{◌∙◌, true≢false, arith}
 use Rattle.std.proofs.Math.Bool.{and-false}
@@ -9,10 +9,8 @@ use mathlib.Core.List.{List}
 use Rattle.base.specs.Laws.Cases.{no_true}
 use Rattle.field.specs.declared.Gf128.{Gf128}
 use Rattle.field.specs.Gf.{is_bit}
-use Rattle.layout.specs.declared.Refusal.{Refusal}
-use Rattle.layout.specs.declared.Asked.{Asked}
-use Rattle.layout.specs.declared.Asked.TheVariants.{Yes, No}
-use Rattle.layout.specs.Questions.{Called, after}
+use Rattle.layout.specs.declared.questions.Refusal.{Refusal}
+use Rattle.layout.specs.Questions.{Called, after, Answer, Asked}
 use Rattle.layout.specs.Laws.Sizes.{allowed-range}
 use Rattle.layout.specs.Laws.Questions.{if_yes_lem, after-yes, yes-batch}
 use Rattle.layout.specs.Laws.Scratch.{some_scratch, some_fits}
@@ -20,8 +18,6 @@ use Rattle.layout.specs.Batch.{batch_words}
 use Rattle.strict.specs.declared.Known.{Known}
 use Rattle.strict.specs.Known.{listing_of}
 use Rattle.verdict.specs.declared.Verdict.{Verdict}
-use Rattle.verdict.specs.declared.CheckAnswer.{CheckAnswer}
-use Rattle.verdict.specs.declared.CheckAnswer.TheVariants.{Judged, Refused}
 use Rattle.verdict.specs.Row.{element_at}
 use Rattle.verdict.specs.Check.{judged, checked, known_checked}
 use Rattle.verdict.specs.Counted.{CountedApart}
@@ -64,7 +60,7 @@ module _ (cpi : ℕ) (other batch : List ℕ) (s : SameElsewhere cpi other batch
 -- ---- by what the filler answers
 
 -- a no is no yes
-yes-no : {r : Refusal} → No r ≡ Yes → ⊥
+yes-no : {r : Refusal} → Err r ≡ Ok tt → ⊥
 yes-no e = let z : ◌≡◌ {A = ℕ} 0 1 = cc in omega arith
 
 -- what a call comes to
@@ -77,21 +73,21 @@ unfolding fill_checked called
 of-asked k cpi before q e = ap (after_asked k cpi before) e
 
 -- a refusal is no verdict
-module _ (k : Known) (cpi : ℕ) (before : List ℕ) (r : Refusal) (e : fill_asked cpi before ≡ No r) where
-  pub refusal-promised : Promised k cpi before (Refused r) before
+module _ (k : Known) (cpi : ℕ) (before : List ℕ) (r : Refusal) (e : fill_asked cpi before ≡ Err r) where
+  pub refusal-promised : Promised k cpi before (Err r) before
   refusal-promised =
       record {
-        result = sym (of-asked k cpi before (No r) e);
+        result = sym (of-asked k cpi before (Err r) e);
         refused = λ t f. (ap (λ (q : Asked). answer_after k cpi q before) (sym e ∙ f), refl);
         fills = λ f. absurd (yes-no (sym e ∙ f));
         accepted = (λ f. absurd (false≢true f), λ h. absurd (yes-no (sym e ∙ h.0)));
         failed = (λ f. absurd (false≢true f), λ h. absurd (yes-no (sym e ∙ h.0)));
         as-checked = λ f. absurd (yes-no (sym e ∙ f));
-        whatever = λ other s. ap (λ (c : FillChecked). c.answer) (of-asked k cpi other (No r) (same_asked cpi other before s ∙ e));
+        whatever = λ other s. ap (λ (c : FillChecked). c.answer) (of-asked k cpi other (Err r) (same_asked cpi other before s ∙ e));
       }
 
 -- what is filled is judged, and demand 3 says how
-module _ (k : Known) (cpi : ℕ) (before : List ℕ) (fit : (i : ℕ) → get_or before i 0 < 2 ^ 64) (e : fill_asked cpi before ≡ Yes) where
+module _ (k : Known) (cpi : ℕ) (before : List ℕ) (fit : (i : ℕ) → get_or before i 0 < 2 ^ 64) (e : fill_asked cpi before ≡ Ok tt) where
   p : Passed cpi before
   p = all-passed cpi before e
 
@@ -108,9 +104,9 @@ module _ (k : Known) (cpi : ℕ) (before : List ℕ) (fit : (i : ℕ) → get_or
   unfolding filled
   filled-words = filling-length cpi (filler_bits cpi before) before ∙ p.words
 
-  pub is-judged : known_checked k cpi (filled cpi before) ≡ Judged (judged cpi (listing_of k) (filled cpi before))
+  pub is-judged : known_checked k cpi (filled cpi before) ≡ Ok (judged cpi (listing_of k) (filled cpi before))
   unfolding known_checked
-  is-judged = sym (if_yes_lem Refused _ (yes-batch cpi (length (filled cpi before)) p.size filled-words))
+  is-judged = sym (if_yes_lem Err _ (yes-batch cpi (length (filled cpi before)) p.size filled-words))
 
   accepted-is : (accepts (known_checked k cpi (filled cpi before)) ≡ true) ↔ EveryStep k cpi before
   accepted-is =
@@ -123,7 +119,7 @@ module _ (k : Known) (cpi : ℕ) (before : List ℕ) (fit : (i : ℕ) → get_or
   pub fill-promised : Promised k cpi before (known_checked k cpi (filled cpi before)) (filled cpi before)
   fill-promised =
       record {
-        result = sym (of-asked k cpi before Yes e);
+        result = sym (of-asked k cpi before (Ok tt) e);
         refused = λ r f. absurd (yes-no (sym f ∙ e));
         fills = λ f. refl;
         accepted = (λ a. (e, accepted-is.0 a), λ h. accepted-is.1 h.1);
@@ -133,7 +129,7 @@ module _ (k : Known) (cpi : ℕ) (before : List ℕ) (fit : (i : ℕ) → get_or
         );
         as-checked = λ f. known-agrees k cpi (filled cpi before);
         whatever = λ other s.
-            ap (λ (c : FillChecked). c.answer) (of-asked k cpi other Yes (same_asked cpi other before s ∙ e))
+            ap (λ (c : FillChecked). c.answer) (of-asked k cpi other (Ok tt) (same_asked cpi other before s ∙ e))
             ∙ ap (known_checked k cpi) (same-filled cpi (allowed-range cpi p.size).0 before met other s);
       }
 
@@ -141,31 +137,31 @@ module _ (k : Known) (cpi : ℕ) (before : List ℕ) (fit : (i : ℕ) → get_or
 
 module _ (k : Known) (cpi : ℕ) (before : List ℕ) {q : Asked} {batch : List ℕ}
     (e : ◌≡◌ {A = Called} (record { answer = q; batch = batch }) (called cpi before)) where
-  pub promised-no : {r : Refusal} → q ≡ No r → Promised k cpi before (Refused r) batch
+  pub promised-no : {r : Refusal} → q ≡ Err r → Promised k cpi before (Err r) batch
   unfolding called
   promised-no {r} no-is =
       go (fill_asked cpi before) refl (ap (λ (c : Called). c.answer) (sym e) ∙ no-is) (ap (λ (c : Called). c.batch) e)
     where
-      go : (a : Asked) → fill_asked cpi before ≡ a → (after a (filled cpi before) before).answer ≡ No r
-          → batch ≡ (after a (filled cpi before) before).batch → Promised k cpi before (Refused r) batch
-      go Yes f h b = absurd (yes-no (sym h))
-      go (No t) f h b =
-          subst (λ (u : List ℕ). Promised k cpi before (Refused r) u) (sym b)
-          (subst (λ (x : CheckAnswer). Promised k cpi before x before) (ap (λ (x : Asked). answer_after k cpi x before) h)
+      go : (a : Asked) → fill_asked cpi before ≡ a → (after a (filled cpi before) before).answer ≡ Err r
+          → batch ≡ (after a (filled cpi before) before).batch → Promised k cpi before (Err r) batch
+      go (Ok _) f h b = absurd (yes-no (sym h))
+      go (Err t) f h b =
+          subst (λ (u : List ℕ). Promised k cpi before (Err r) u) (sym b)
+          (subst (λ (x : Answer Verdict). Promised k cpi before x before) (ap (λ (x : Asked). answer_after k cpi x before) h)
           (refusal-promised k cpi before t f))
 
-  pub promised-yes : q ≡ Yes → ((i : ℕ) → get_or before i 0 < 2 ^ 64) → {x : CheckAnswer} → x ≡ known_checked k cpi batch
+  pub promised-yes : q ≡ Ok tt → ((i : ℕ) → get_or before i 0 < 2 ^ 64) → {x : Answer Verdict} → x ≡ known_checked k cpi batch
       → Promised k cpi before x batch
   unfolding called
   promised-yes yes-is fit {x} f =
       let is-called = sym e ∙ ap (λ (a : Asked). record { answer = a; batch = batch }) yes-is in
       let y = after-yes (fill_asked cpi before) (filled cpi before) before batch is-called in
       subst (λ (u : List ℕ). Promised k cpi before x u) (sym y.1)
-      (subst (λ (z : CheckAnswer). Promised k cpi before z (filled cpi before)) (sym (f ∙ ap (known_checked k cpi) y.1))
+      (subst (λ (z : Answer Verdict). Promised k cpi before z (filled cpi before)) (sym (f ∙ ap (known_checked k cpi) y.1))
       (fill-promised k cpi before fit y.0))
 
 -- ---- bin and fld are counted apart here too, over the batch that is left
-pub fill-counted : (k : Known) (cpi : ℕ) (batch : List ℕ) (v : Verdict) → (fill_checked k cpi batch).answer ≡ Judged v
+pub fill-counted : (k : Known) (cpi : ℕ) (batch : List ℕ) (v : Verdict) → (fill_checked k cpi batch).answer ≡ Ok v
     → CountedApart cpi (listing_of k) (fill_checked k cpi batch).batch v
 unfolding fill_checked
 fill-counted k cpi batch v = by_answer (called cpi batch).answer
@@ -173,6 +169,6 @@ fill-counted k cpi batch v = by_answer (called cpi batch).answer
     left : List ℕ
     left = (called cpi batch).batch
 
-    by_answer : (q : Asked) → answer_after k cpi q left ≡ Judged v → CountedApart cpi (listing_of k) left v
-    by_answer Yes e = known-counted k cpi left v e
-    by_answer (No r) e = let z : ◌≡◌ {A = ℕ} 0 1 = cc in absurd (omega arith)
+    by_answer : (q : Asked) → answer_after k cpi q left ≡ Ok v → CountedApart cpi (listing_of k) left v
+    by_answer (Ok _) e = known-counted k cpi left v e
+    by_answer (Err r) e = let z : ◌≡◌ {A = ℕ} 0 1 = cc in absurd (omega arith)

@@ -1,20 +1,17 @@
 -- Filling and checking, of given batches: of every size one that is accepted, and one that fails by what stands in any one cycle; rows
 -- whose verdict is known; and calls that are refused.
 -- Assumes nothing.
-use Rattle.std.specs.Prelude.{◌≡◌, refl, Bool, true, false, List, [], ◌∷◌, ℕ, ◌+◌, ◌*◌, ◌<◌, replicate}
+use Rattle.std.specs.Prelude.{◌≡◌, refl, Bool, true, false, List, [], ◌∷◌, ℕ, ◌+◌, ◌*◌, ◌<◌, replicate, Err, Ok}
 use Rattle.std.proofs.Common.{sym, ap, ◌∙◌}
 use Rattle.field.specs.Gf.{of_words, is_bit}
-use Rattle.layout.specs.declared.Asked.TheVariants.{Yes}
 use Rattle.layout.specs.Batch.{allowed, batch_words, batch_asked}
-use Rattle.layout.specs.Questions.{no, Called}
+use Rattle.layout.specs.Questions.{no, Called, Answer}
 use Rattle.layout.specs.Laws.Scratch.{some_scratch, some_fits}
 use Rattle.layout.specs.Laws.Sizes.{allowed-range}
 use Rattle.strict.specs.declared.Known.{Known}
 use Rattle.strict.specs.declared.Known.TheVariants.{House}
 use Rattle.verdict.specs.declared.Verdict.{Verdict}
 use Rattle.verdict.specs.declared.Verdict.TheVariants.{Accepted}
-use Rattle.verdict.specs.declared.CheckAnswer.{CheckAnswer}
-use Rattle.verdict.specs.declared.CheckAnswer.TheVariants.{Judged, Refused}
 use Rattle.verdict.specs.Counts.{every_row_of}
 use Rattle.verdict.specs.Check.{Checked, known_checked}
 use Rattle.verdict.proofs.Laws.Agree.{known-agrees}
@@ -33,10 +30,10 @@ use Rattle.judge.proofs.Laws.FillCheck.{is-judged, fill-promised}
 
 -- a batch is refused with a number and a place, and stays as it came
 abbrev pub RefusedAs : Known → ℕ → ℕ → ℕ → List ℕ → Type 0
-RefusedAs k cpi number place batch = fill_checked k cpi batch ≡ record { answer = Refused (no number place); batch = batch }
+RefusedAs k cpi number place batch = fill_checked k cpi batch ≡ record { answer = Err (no number place); batch = batch }
 
 pub record OfSize (k : Known) (cpi : ℕ) : Type 0 where
-  pub accepted : fill_checked k cpi (idle cpi) ≡ record { answer = Judged (Accepted (every_row_of k cpi)); batch = filled cpi (idle cpi) }
+  pub accepted : fill_checked k cpi (idle cpi) ≡ record { answer = Ok (Accepted (every_row_of k cpi)); batch = filled cpi (idle cpi) }
   -- in cycle d condition 2 is not met
   pub failed : (d : ℕ) → d < cpi → fails (fill_checked k cpi (batch_of cpi (shifts_in d))).answer ≡ true
   -- questions 11 and 12: a given column that is no bit, whatever bits stand elsewhere; the one column 0
@@ -61,7 +58,7 @@ module _ (k : Known) (cpi : ℕ) (size : allowed cpi ≡ true) where
 
   -- of a choice of bits
   module _ (b : ℕ → ℕ → Bool) where
-    yes : fill_asked cpi (batch_of cpi b) ≡ Yes
+    yes : fill_asked cpi (batch_of cpi b) ≡ Ok tt
     yes = passed-all cpi (batch_of cpi b) (passes cpi (batch_of cpi b) size (premises-of cpi some b))
 
     call : Promised k cpi (batch_of cpi b) (known_checked k cpi (filled cpi (batch_of cpi b))) (filled cpi (batch_of cpi b))
@@ -74,9 +71,9 @@ module _ (k : Known) (cpi : ℕ) (size : allowed cpi ≡ true) where
   of_size =
       record {
         accepted = sym (call (λ d c. false)).result
-            ∙ ap (λ (a : CheckAnswer). record { answer = a; batch = filled cpi (idle cpi) })
+            ∙ ap (λ (a : Answer Verdict). record { answer = a; batch = filled cpi (idle cpi) })
             (is-judged k cpi (idle cpi) (premises-of cpi some (λ d c. false)).fit (yes (λ d c. false))
-            ∙ ap Judged ((batch-examples k cpi some).accepted size));
+            ∙ ap Ok ((batch-examples k cpi some).accepted size));
         failed = λ d l. ap fails (answer-is (shifts_in d))
             ∙ (call (shifts_in d)).failed.1 (yes (shifts_in d), shift-meets-not k cpi some d l);
         no-bit = λ b c d l h m e n above.
@@ -85,10 +82,10 @@ module _ (k : Known) (cpi : ℕ) (size : allowed cpi ≡ true) where
       }
 
 -- a row that the filler fills as called, and the verdict on it: the bench sheet cites this of P6 to P9
-pub filled-and-judged : {row : List ℕ} {v : Verdict} → Gives row v → fill_checked House 1 row ≡ record { answer = Judged v; batch = filled 1 row }
+pub filled-and-judged : {row : List ℕ} {v : Verdict} → Gives row v → fill_checked House 1 row ≡ record { answer = Ok v; batch = filled 1 row }
 filled-and-judged {row} {v} g =
     as_called House 1 row g.fill
-    ∙ ap (λ (a : CheckAnswer). record { answer = a; batch = filled 1 row })
+    ∙ ap (λ (a : Answer Verdict). record { answer = a; batch = filled 1 row })
     (known-agrees House 1 (filled 1 row) some_scratch some_fits
     ∙ ap (λ (c : Checked). c.answer) (g.check some_scratch some_fits))
 

@@ -3,9 +3,9 @@
 use mathlib.Core.Path.{ap₂}
 use Prim.Native.Nat.{ℕ}
 use Rattle.verdict.specs.declared.Verdict.TheVariants.{Accepted}
-use Rattle.verdict.specs.declared.CheckAnswer.TheVariants.{Judged}
 use Rattle.verdict.specs.Counts.{counts}
 use Rattle.judge.proofs.all_rows.Goals as goal
+use Rattle.std.specs.Prelude.{Ok}
 
 pub returns : goal.returns
-returns c = ap₂ (λ (b f : ℕ). Judged (Accepted (counts b f))) c.rows_in.ensures c.rows_in-2.ensures
+returns c = ap₂ (λ (b f : ℕ). Ok (Accepted (counts b f))) c.rows_in.ensures c.rows_in-2.ensures

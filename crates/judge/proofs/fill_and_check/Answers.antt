@@ -5,9 +5,9 @@ use native.Mathlib.Omega.{arith}
 use Rattle.judge.proofs.Laws.FillCheck.{promised-no, promised-yes}
 use Rattle.judge.proofs.fill_and_check.Goals as goal
 
-pub returns-in-No : goal.returns-in-No
-returns-in-No c = promised-no _ _ _ c.fill-asked.ensures c.in-No.is
+pub returns-in-Err : goal.returns-in-Err
+returns-in-Err c = promised-no _ _ _ c.fill-asked.ensures c.in-Err.is
 
-pub returns-in-Yes : goal.returns-in-Yes
-returns-in-Yes c =
-    promised-yes _ _ _ c.fill-asked.ensures c.in-Yes.is (λ i. omega (arith, c.slice_known-1.given i)) c.check_known.ensures
+pub returns-in-Ok : goal.returns-in-Ok
+returns-in-Ok c =
+    promised-yes _ _ _ c.fill-asked.ensures c.in-Ok.is (λ i. omega (arith, c.slice_known-1.given i)) c.check_known.ensures

@@ -2,7 +2,7 @@
 -- Assumes nothing.
 use Rattle.std.proofs.Math.Path.{◌≡◌, refl, ap, ap₂}
 use Rattle.std.proofs.Common.{sym, subst, ◌∙◌, arith}
-use Rattle.std.specs.Prelude.{◌↔◌, Bool, ◌&&◌, ℕ, zero, suc, ◌+◌, ◌*◌, ◌^◌, ◌≤◌, ◌<◌, get_or, take, replicate}
+use Rattle.std.specs.Prelude.{◌↔◌, Bool, ◌&&◌, ℕ, zero, suc, ◌+◌, ◌*◌, ◌^◌, ◌≤◌, ◌<◌, get_or, take, replicate, Err, Ok}
 use Rattle.std.proofs.Math.Bool.{true, false, cond}
 use Rattle.std.proofs.lemmas.Bool.{false≢true}
 use mathlib.Core.List.{List, ◌∷◌}
@@ -14,9 +14,7 @@ use Rattle.base.specs.Laws.From.{length_from}
 use Rattle.field.specs.declared.Gf128.{Gf128}
 use Rattle.field.specs.Gf.{one, same}
 use Rattle.field.specs.Gf.Tests.{same_true, same_self}
-use Rattle.layout.specs.declared.Refusal.{Refusal}
-use Rattle.layout.specs.declared.Asked.{Asked}
-use Rattle.layout.specs.declared.Asked.TheVariants.{Yes, No}
+use Rattle.layout.specs.declared.questions.Refusal.{Refusal}
 use Rattle.layout.specs.Batch.{allowed, batch_words, batch_asked}
 use Rattle.layout.specs.Laws.Questions.{if_yes_lem, batch-yes, yes-batch}
 use Rattle.layout.specs.Laws.Sizes.{allowed-range}
@@ -29,12 +27,9 @@ use Rattle.strict.specs.Known.{listing_of, rows_each}
 use Rattle.strict.proofs.Laws.Known.{in_order}
 use Rattle.verdict.specs.declared.Verdict.{Verdict}
 use Rattle.verdict.specs.declared.Verdict.TheVariants.{Accepted}
-use Rattle.verdict.specs.declared.CheckAnswer.TheVariants.{Judged, Refused as NoCheck}
 use Rattle.verdict.specs.Row.{element_at}
 use Rattle.verdict.specs.Counts.{every_row_of}
 use Rattle.verdict.specs.Check.{Checked, after, asked, judged, checked, known_checked}
-use Rattle.packed.specs.declared.Packing.{Packing}
-use Rattle.packed.specs.declared.Packing.TheVariants.{Bits, NotBits, Refused}
 use Rattle.packed.specs.Packed.{NamedCalled, answer_of, named_called, packed_at, packed_named, bits_from, named_bits}
 use Rattle.packed.specs.Named.{NamedIn}
 use Rattle.packed.specs.Laws.Named.{called_is, bits_each}
@@ -47,15 +42,16 @@ use Rattle.judge.specs.Named.{NamedBits}
 use Rattle.judge.specs.Short.{short_bits, is_yes, short_yes, ShortIn, ShortRow}
 use Rattle.judge.specs.Laws.WordsSame.{packed-batch}
 use Rattle.judge.specs.Laws.Named.{named-packed, judges-named, over-named}
+use Rattle.layout.specs.Questions.{Answer, Asked}
 
 -- ---- a yes
 
-is-yes : (q : Asked) → is_yes q ≡ true → q ≡ Yes
-is-yes Yes e = refl
-is-yes (No r) e = absurd (false≢true e)
+is-yes : (q : Asked) → is_yes q ≡ true → q ≡ Ok tt
+is-yes (Ok _) e = refl
+is-yes (Err r) e = absurd (false≢true e)
 
 pub record Parts (k : Known) (cpi : ℕ) (batch : List ℕ) : Type 0 where
-  pub asked : batch_asked cpi (length batch) ≡ Yes
+  pub asked : batch_asked cpi (length batch) ≡ Ok tt
   pub one-is : element_at batch (2048 * cpi) ≡ one
   pub bits : named_bits cpi batch ≡ true
   pub cycles : all_judged k (packed_named cpi batch (replicate (32 * cpi) 0)) (element_at batch (2048 * cpi + 1)) cpi 0 ≡ true
@@ -128,19 +124,19 @@ short-over k cpi batch size o =
 
 module _ (k : Known) (cpi : ℕ) where
   pub known-short : (batch : List ℕ) → ((i : ℕ) → get_or batch i 0 < 2 ^ 64) → short_yes k cpi batch ≡ true
-      → Judged (Accepted (every_row_of k cpi)) ≡ known_checked k cpi batch
+      → Ok (Accepted (every_row_of k cpi)) ≡ known_checked k cpi batch
   unfolding known_checked
   known-short batch fit e =
-      ap Judged (sym (short-accepts k cpi batch fit e)) ∙ if_yes_lem NoCheck _ (parts k cpi batch e).asked
+      ap Ok (sym (short-accepts k cpi batch fit e)) ∙ if_yes_lem Err _ (parts k cpi batch e).asked
 
   pub row-short : (listing batch scratch : List ℕ) → ((i : ℕ) → get_or batch i 0 < 2 ^ 64) → ShortRow k cpi listing batch (length scratch)
-      → ◌≡◌ {A = Checked} (after Yes (Accepted (every_row_of k cpi)) scratch) (checked cpi listing batch scratch)
+      → ◌≡◌ {A = Checked} (after (Ok tt) (Accepted (every_row_of k cpi)) scratch) (checked cpi listing batch scratch)
   unfolding checked asked
   row-short listing batch scratch fit h =
-      ap (λ (v : Verdict). after Yes v scratch)
+      ap (λ (v : Verdict). after (Ok tt) v scratch)
       (sym (short-accepts k cpi batch fit h.yes) ∙ ap (λ (ws : List ℕ). judged cpi ws batch) (sym h.known))
       ∙ ap (λ (q : Asked). after q (judged cpi listing batch) scratch)
-      (sym (in_order k) ∙ ap validated (sym h.known) ∙ passed _ _ _ h.scratch ∙ if_yes_lem No _ (parts k cpi batch h.yes).asked)
+      (sym (in_order k) ∙ ap validated (sym h.known) ∙ passed _ _ _ h.scratch ∙ if_yes_lem Err _ (parts k cpi batch h.yes).asked)
 
   -- a count fits in a word
   pub rows-room : (rel : Relation) → cpi ≤ 256 → rows_each k rel * cpi < 2 ^ 32
@@ -162,54 +158,54 @@ module _ (k : Known) (cpi : ℕ) (batch out : List ℕ) (h : NamedIn cpi batch o
   cycles = all_judged k (packed_named cpi batch out) (element_at batch (2048 * cpi + 1)) cpi 0
 
   -- what the packing answered, and left in the slice
-  abbrev Packs : Packing → List ℕ → Type 0
+  abbrev Packs : Answer Bool → List ℕ → Type 0
   Packs a after = ◌≡◌ {A = NamedCalled} (record { answer = a; out = after }) (named_called cpi batch out)
 
-  pub of-bits : {a : Packing} {after : List ℕ} {x : Gf128} {r : Bool}
-      → Packs a after → a ≡ Bits → x ≡ element_at batch (2048 * cpi + 1) → r ≡ all_judged k after x cpi 0 → r ≡ short_bits k cpi batch out
+  pub of-bits : {a : Answer Bool} {after : List ℕ} {x : Gf128} {r : Bool}
+      → Packs a after → a ≡ Ok true → x ≡ element_at batch (2048 * cpi + 1) → r ≡ all_judged k after x cpi 0 → r ≡ short_bits k cpi batch out
   unfolding short_bits
   of-bits {after = after} {x = x} e b f j =
       let p = called_is cpi batch out h e in
       j ∙ ap₂ (λ (u : List ℕ) (y : Gf128). all_judged k u y cpi 0) p.1 f
       ∙ ap (λ (t : Bool). t && cycles) (sym (bits_are (named_bits cpi batch) (sym p.0 ∙ b)))
     where
-      bits_are : (t : Bool) → cond t Bits NotBits ≡ Bits → t ≡ true
+      bits_are : (t : Bool) → cond t (Ok true) (Ok false) ≡ Ok true → t ≡ true
       bits_are true e = refl
       bits_are false e = let z : ◌≡◌ {A = ℕ} 0 1 = cc in absurd (omega arith)
 
-  pub packed-room : {a : Packing} {after : List ℕ} → Packs a after → length after ≡ 32 * cpi
+  pub packed-room : {a : Answer Bool} {after : List ℕ} → Packs a after → length after ≡ 32 * cpi
   unfolding packed_named
   packed-room e = ap length (called_is cpi batch out h e).1 ∙ length_from (packed_at cpi batch out) (length out) 0 ∙ h.room
 
   -- anything else is a no
-  pub not-of-bits : {a : Packing} {after : List ℕ} → Packs a after → (a ≡ Bits → ⊥) → false ≡ short_bits k cpi batch out
+  pub not-of-bits : {a : Answer Bool} {after : List ℕ} → Packs a after → (a ≡ Ok true → ⊥) → false ≡ short_bits k cpi batch out
   unfolding short_bits
   not-of-bits e f =
       ap (λ (t : Bool). t && cycles) (sym (no_true (named_bits cpi batch) (λ q. f ((called_is cpi batch out h e).0 ∙ ap answer_of q))))
 
-pub not-bits : {a : Packing} → a ≡ NotBits → a ≡ Bits → ⊥
+pub not-bits : {a : Answer Bool} → a ≡ Ok false → a ≡ Ok true → ⊥
 not-bits e f = let z : ◌≡◌ {A = ℕ} 0 1 = cc in omega arith
 
-pub refused-bits : {a : Packing} {r : Refusal} → a ≡ Refused r → a ≡ Bits → ⊥
+pub refused-bits : {a : Answer Bool} {r : Refusal} → a ≡ Err r → a ≡ Ok true → ⊥
 refused-bits e f = let z : ◌≡◌ {A = ℕ} 0 1 = cc in omega arith
 
 -- ---- the tests in their order
 
 module _ (k : Known) (cpi : ℕ) (batch : List ℕ) where
-  pub not-asked : {r : Refusal} → batch_asked cpi (length batch) ≡ No r → false ≡ short_yes k cpi batch
+  pub not-asked : {r : Refusal} → batch_asked cpi (length batch) ≡ Err r → false ≡ short_yes k cpi batch
   unfolding short_yes
   not-asked e = rw e
 
-  pub no_one : batch_asked cpi (length batch) ≡ Yes → same (element_at batch (2048 * cpi)) one ≡ false → false ≡ short_yes k cpi batch
+  pub no_one : batch_asked cpi (length batch) ≡ Ok tt → same (element_at batch (2048 * cpi)) one ≡ false → false ≡ short_yes k cpi batch
   unfolding short_yes
   no_one a e = rw (a, e)
 
-  pub left-bits : batch_asked cpi (length batch) ≡ Yes → same (element_at batch (2048 * cpi)) one ≡ true
+  pub left-bits : batch_asked cpi (length batch) ≡ Ok tt → same (element_at batch (2048 * cpi)) one ≡ true
       → short_bits k cpi batch (replicate (32 * cpi) 0) ≡ short_yes k cpi batch
   unfolding short_yes
   left-bits a e = rw (a, e)
 
-pub short-in : (cpi : ℕ) (batch : List ℕ) → batch_asked cpi (length batch) ≡ Yes → ShortIn cpi batch
+pub short-in : (cpi : ℕ) (batch : List ℕ) → batch_asked cpi (length batch) ≡ Ok tt → ShortIn cpi batch
 short-in cpi batch e = let y = batch-yes cpi (length batch) e in record { size = y.0; words = y.1 }
 
 -- a batch of one cycle

@@ -1,7 +1,7 @@
 -- The bit test of a merged batch. A test of its columns finds none before a place where that of the first finds none before the part of it
 -- that lies in the first batch, and that of the second none before the part in the second.
 -- Assumes nothing.
-use Rattle.std.specs.Prelude.{◌≡◌, refl, ◌⊎◌, Bool, true, false, cond, not, List, ℕ, ◌+◌, ◌-◌, ◌*◌, ◌/◌, ◌%◌, ◌≤◌, ◌<◌, leb, length}
+use Rattle.std.specs.Prelude.{◌≡◌, refl, ◌⊎◌, Bool, true, false, cond, not, List, ℕ, ◌+◌, ◌-◌, ◌*◌, ◌/◌, ◌%◌, ◌≤◌, ◌<◌, leb, length, Err, None, Ok, Option}
 use Rattle.std.proofs.Common.{sym, ap, ap₂, subst, ◌∙◌, inl, inr, ⊎_elim, mod-lt, div-add-mod', div-lt_iff_lt-mul, mul-le-mul_right, arith, leb-true, leb-false}
 use Rattle.std.proofs.Math.Decide.{dec_lt}
 use Rattle.std.proofs.Math.Arith.{digits_lt}
@@ -10,14 +10,13 @@ use Rattle.field.specs.Gf.{is_bit}
 use Rattle.layout.specs.Batch.{allowed, column_at, batch_words}
 use Rattle.layout.specs.Laws.Mapping.{witness-column, column_fits}
 use Rattle.layout.specs.Laws.Sizes.{allowed-range}
-use Rattle.verdict.specs.declared.bits.BitAnswer.{BitAnswer}
-use Rattle.verdict.specs.declared.bits.BitAnswer.TheVariants.{AllBits, NotBit, Refused}
-use Rattle.verdict.specs.Bits.{above_one, bit_tested}
+use Rattle.verdict.specs.Bits.{above_one, bit_tested, not_bit}
 use Rattle.verdict.specs.Laws.BitTest.{all-bits-said, not-bit-named, Above, none, found, above}
 use Rattle.merge.specs.Merged.{merged}
 use Rattle.merge.specs.Joined.{joined_bits, in_first, in_second}
 use Rattle.merge.specs.Merging.{Bits}
 use Rattle.merge.specs.Laws.Columns.{merged-length, first-element, second-element}
+use Rattle.layout.specs.Questions.{Answer}
 
 -- ---- places by column and cycle
 
@@ -160,16 +159,16 @@ module _ (cpi : ℕ) (first second : List ℕ) (size : allowed cpi ≡ true) (tw
           let m : (b + 1) * cpi ≤ c * cpi = mul-le-mul_right cpi (omega (arith, leb-false c b l)) in
           found-second b f hb hf g q (column_at cpi c d) p (omega (arith, witness-column cpi c d hc)) ∙ refused _ _ _ l
 
-  all-joined : (v w : BitAnswer) → joined_bits cpi v w ≡ AllBits → (v ≡ AllBits) × (w ≡ AllBits)
-  all-joined AllBits AllBits e = (refl, refl)
-  all-joined AllBits (NotBit y b f) e = let z : ◌≡◌ {A = ℕ} 0 1 = cc in absurd (omega arith)
-  all-joined AllBits (Refused r) e = let z : ◌≡◌ {A = ℕ} 0 1 = cc in absurd (omega arith)
-  all-joined (Refused r) w e = let z : ◌≡◌ {A = ℕ} 0 1 = cc in absurd (omega arith)
-  all-joined (NotBit x c d) AllBits e = let z : ◌≡◌ {A = ℕ} 0 1 = cc in absurd (omega arith)
-  all-joined (NotBit x c d) (Refused r) e = let z : ◌≡◌ {A = ℕ} 0 1 = cc in absurd (omega arith)
-  all-joined (NotBit x c d) (NotBit y b f) e = by-column (leb c b) e
+  all-joined : (v w : Answer (Option NotBit)) → joined_bits cpi v w ≡ Ok None → (v ≡ Ok None) × (w ≡ Ok None)
+  all-joined (Ok None) (Ok None) e = (refl, refl)
+  all-joined (Ok None) (not_bit y b f) e = let z : ◌≡◌ {A = ℕ} 0 1 = cc in absurd (omega arith)
+  all-joined (Ok None) (Err r) e = let z : ◌≡◌ {A = ℕ} 0 1 = cc in absurd (omega arith)
+  all-joined (Err r) w e = let z : ◌≡◌ {A = ℕ} 0 1 = cc in absurd (omega arith)
+  all-joined (not_bit x c d) (Ok None) e = let z : ◌≡◌ {A = ℕ} 0 1 = cc in absurd (omega arith)
+  all-joined (not_bit x c d) (Err r) e = let z : ◌≡◌ {A = ℕ} 0 1 = cc in absurd (omega arith)
+  all-joined (not_bit x c d) (not_bit y b f) e = by-column (leb c b) e
     where
-      by-column : (t : Bool) → cond t (in_first cpi c d) (in_second cpi b f) ≡ AllBits → (NotBit x c d ≡ AllBits) × (NotBit y b f ≡ AllBits)
+      by-column : (t : Bool) → cond t (in_first cpi c d) (in_second cpi b f) ≡ Ok None → (not_bit x c d ≡ Ok None) × (not_bit y b f ≡ Ok None)
       by-column true e = let z : ◌≡◌ {A = ℕ} 0 1 = cc in absurd (omega arith)
       by-column false e = let z : ◌≡◌ {A = ℕ} 0 1 = cc in absurd (omega arith)
 

@@ -1,7 +1,7 @@
 -- The filling of a merged batch is the merge of the fillings of its parts, and the filler refuses neither part exactly where it does not
 -- refuse the merged batch.
 -- Assumes nothing.
-use Rattle.std.specs.Prelude.{◌≡◌, refl, Bool, false, not, ◌&&◌, length}
+use Rattle.std.specs.Prelude.{◌≡◌, refl, Bool, false, not, ◌&&◌, length, Ok}
 use Rattle.std.proofs.Math.Path.{sym, ap, subst, fun_ext}
 use Rattle.std.proofs.Common.{ap₂, ◌∙◌, add-zero, mod-lt, div-add-mod', div-lt_iff_lt-mul, arith}
 use Rattle.std.proofs.Math.Bool.{true}
@@ -11,7 +11,6 @@ use Rattle.std.proofs.Math.Decide.{dec_lt}
 use Rattle.std.proofs.Math.Arith.{digits_div, digits_mod, digits_lt}
 use Rattle.base.specs.Laws.First.{first-none, first-least}
 use Rattle.field.specs.Gf.{of_bit}
-use Rattle.layout.specs.declared.Asked.TheVariants.{Yes}
 use Rattle.layout.specs.Batch.{allowed, batch_words}
 use Rattle.layout.specs.Questions.{Left}
 use Rattle.layout.specs.Laws.Questions.{after-yes, called-yes}
@@ -174,7 +173,7 @@ module _ (cpi : ℕ) (first second : List ℕ) (some : 0 < cpi) (len : length fi
     Both there a b =
         Left (called (2 * cpi) batch) (merged cpi a b) × Left (merge_called cpi a cpi b there) (merged cpi a b)
 
-    both : (there : List ℕ) → length there ≡ batch_words (2 * cpi) → fill_asked cpi first ≡ Yes → fill_asked cpi second ≡ Yes → Both there u w
+    both : (there : List ℕ) → length there ≡ batch_words (2 * cpi) → fill_asked cpi first ≡ Ok tt → fill_asked cpi second ≡ Ok tt → Both there u w
     unfolding called merge_called
     both there room p q = (
       sym

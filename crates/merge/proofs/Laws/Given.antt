@@ -1,6 +1,6 @@
 -- Given merges, by numbers: single words, the verdicts of all nine pairs of outcomes, and the bit test.
 -- Assumes nothing.
-use Rattle.std.specs.Prelude.{◌≡◌, refl, false, List, ℕ, ◌+◌, ◌*◌, ◌≤◌, ◌<◌, length, get_or, replicate}
+use Rattle.std.specs.Prelude.{◌≡◌, refl, false, List, ℕ, ◌+◌, ◌*◌, ◌≤◌, ◌<◌, length, get_or, replicate, None, Ok, Option}
 use Rattle.std.proofs.Common.{sym, ap, ap₂, ◌∙◌, arith, ne_eqb, length-set}
 use Rattle.std.proofs.lemmas.List.{length-replicate}
 use Rattle.field.specs.Gf.{of_words, of_bit, zero}
@@ -11,10 +11,8 @@ use Rattle.circuit.specs.Circuit.{circuit_words}
 use Rattle.strict.specs.declared.Known.TheVariants.{House}
 use Rattle.verdict.specs.declared.Verdict.{Verdict}
 use Rattle.verdict.specs.declared.Verdict.TheVariants.{Accepted, Failed}
-use Rattle.verdict.specs.declared.bits.BitAnswer.{BitAnswer}
-use Rattle.verdict.specs.declared.bits.BitAnswer.TheVariants.{AllBits, NotBit}
 use Rattle.verdict.specs.Row.{element_at}
-use Rattle.verdict.specs.Bits.{bit_tested}
+use Rattle.verdict.specs.Bits.{bit_tested, not_bit}
 use Rattle.verdict.specs.Counts.{counts}
 use Rattle.verdict.specs.Check.{judged}
 use Rattle.verdict.proofs.Laws.LaterCycles.{alone, bin-judged, fld-judged}
@@ -26,6 +24,7 @@ use Rattle.merge.specs.Merged.{cycle_word, lower_word, public_word, merged_word,
 use Rattle.merge.specs.Joined.{joined, joined_bits}
 use Rattle.merge.proofs.Laws.Bits.{bits as merged-bits}
 use Rattle.merge.proofs.Laws.Judgement.{merged-verdict}
+use Rattle.layout.specs.Questions.{Answer}
 
 -- ---- words of two batches of two cycles each, whatever they hold
 
@@ -145,17 +144,17 @@ two c d = replaced (batch_of 2 (λ e k. false)) (c * 2 + d) 2 0
 abbrev bits : List ℕ
 bits = batch_of 2 (λ e k. false)
 
-abbrev bits_said : List ℕ → List ℕ → BitAnswer
+abbrev bits_said : List ℕ → List ℕ → Answer (Option NotBit)
 bits_said first second = bit_tested 4 (merged 2 first second)
 
 pub record GivenBits : Type 0 where
-  pub all : bits_said bits bits ≡ AllBits
-  pub in-first : bits_said (two 5 1) bits ≡ NotBit 21 5 1
-  pub in-second : bits_said bits (two 5 1) ≡ NotBit 23 5 3
+  pub all : bits_said bits bits ≡ Ok None
+  pub in-first : bits_said (two 5 1) bits ≡ not_bit 21 5 1
+  pub in-second : bits_said bits (two 5 1) ≡ not_bit 23 5 3
   -- of one column the first batch's, though its cycle has the larger number; of two the smaller
-  pub same-column : bits_said (two 5 1) (two 5 0) ≡ NotBit 21 5 1
-  pub second-smaller : bits_said (two 5 0) (two 4 1) ≡ NotBit 19 4 3
-  pub first-smaller : bits_said (two 4 1) (two 5 0) ≡ NotBit 17 4 1
+  pub same-column : bits_said (two 5 1) (two 5 0) ≡ not_bit 21 5 1
+  pub second-smaller : bits_said (two 5 0) (two 4 1) ≡ not_bit 19 4 3
+  pub first-smaller : bits_said (two 4 1) (two 5 0) ≡ not_bit 17 4 1
 
 pub given-bits : GivenBits
 unfolding allowed column_at
@@ -182,8 +181,8 @@ given-bits =
         → bits_said first second ≡ joined_bits 2 (bit_tested 2 first) (bit_tested 2 second)
     said first second p q = (merged-bits 2 first second refl refl p q).answer
 
-    none : bit_tested 2 bits ≡ AllBits
+    none : bit_tested 2 bits ≡ Ok None
     none = (tells 2 refl).bits (λ e k. false)
 
-    at : (c d : ℕ) → c < 2048 → d < 2 → bit_tested 2 (two c d) ≡ NotBit (c * 2 + d) c d
+    at : (c d : ℕ) → c < 2048 → d < 2 → bit_tested 2 (two c d) ≡ not_bit (c * 2 + d) c d
     at c d hc hd = (tells 2 refl).no-bit (λ e k. false) c d 2 0 hc hd two-is-none

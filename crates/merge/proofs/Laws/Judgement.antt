@@ -1,14 +1,13 @@
 -- The verdict on a merged batch is the joined verdict of its parts; so it is accepted exactly when both are, and a failure is the earlier of
 -- the two.
 -- Assumes nothing.
-use Rattle.std.specs.Prelude.{◌≡◌, refl, ◌↔◌, Bool, true, List, map, ℕ, ◌+◌, ◌*◌, ◌^◌, ◌<◌, length, get_or}
+use Rattle.std.specs.Prelude.{◌≡◌, refl, ◌↔◌, Bool, true, List, map, ℕ, ◌+◌, ◌*◌, ◌^◌, ◌<◌, length, get_or, Err, Ok}
 use Rattle.std.proofs.Common.{sym, ap₂, ◌∙◌, arith}
 use Rattle.std.proofs.Math.Path.{ap}
 use Rattle.std.proofs.lemmas.Bool.{false≢true}
 use Rattle.base.specs.Lists.{All}
 use Rattle.base.specs.Laws.Lists.{all-every}
 use Rattle.field.specs.declared.Gf128.{Gf128}
-use Rattle.layout.specs.declared.Asked.TheVariants.{Yes}
 use Rattle.layout.specs.Batch.{allowed, batch_words}
 use Rattle.circuit.specs.declared.Relation.{Relation}
 use Rattle.circuit.specs.declared.Relation.TheVariants.{Bin, Fld}
@@ -20,8 +19,6 @@ use Rattle.circuit.specs.Valid.{validated}
 use Rattle.verdict.specs.declared.Counts.{Counts}
 use Rattle.verdict.specs.declared.Verdict.{Verdict}
 use Rattle.verdict.specs.declared.Verdict.TheVariants.{Accepted, Failed}
-use Rattle.verdict.specs.declared.CheckAnswer.{CheckAnswer}
-use Rattle.verdict.specs.declared.CheckAnswer.TheVariants.{Judged, Refused}
 use Rattle.verdict.specs.Row.{holds}
 use Rattle.verdict.specs.Counts.{counts, none}
 use Rattle.verdict.specs.Check.{Constraint, in_cycle, in_cycles, constraints, run, judged}
@@ -38,6 +35,7 @@ use Rattle.merge.specs.Merged.{merged}
 use Rattle.merge.specs.Joined.{joined, joined_answer, at, failure_of, moved, earlier}
 use Rattle.merge.specs.Laws.Columns.{SamePublic, seen_first, seen-second}
 use Rattle.merge.specs.Laws.Walk.{move_by, moved_by, twice-cycles, run_moved}
+use Rattle.layout.specs.Questions.{Answer}
 
 -- ---- what is said of two verdicts
 
@@ -152,17 +150,17 @@ joined-failure cpi (Failed Fld row n) (Accepted m) = refl
 joined-failure cpi (Failed Fld row n) (Failed Bin row₂ m) = refl
 joined-failure cpi (Failed Fld row n) (Failed Fld row₂ m) = refl
 
-pub joined-accepts : (cpi : ℕ) (a b : CheckAnswer) → (accepts (joined_answer cpi a b) ≡ true) ↔ ((accepts a ≡ true) × (accepts b ≡ true))
-joined-accepts cpi (Refused r) b = (λ e. absurd (false≢true e), λ h. h.0)
-joined-accepts cpi (Judged (Accepted n)) (Refused r) = (λ e. absurd (false≢true e), λ h. h.1)
-joined-accepts cpi (Judged (Accepted n)) (Judged (Accepted m)) = (λ e. (refl, refl), λ h. refl)
-joined-accepts cpi (Judged (Accepted n)) (Judged (Failed Bin row m)) = (λ e. absurd (false≢true e), λ h. h.1)
-joined-accepts cpi (Judged (Accepted n)) (Judged (Failed Fld row m)) = (λ e. absurd (false≢true e), λ h. h.1)
-joined-accepts cpi (Judged (Failed rel row n)) (Refused r) = (λ e. absurd (false≢true e), λ h. h.0)
-joined-accepts cpi (Judged (Failed Bin row n)) (Judged w) = (λ e. absurd (false≢true e), λ h. h.0)
-joined-accepts cpi (Judged (Failed Fld row n)) (Judged (Accepted m)) = (λ e. absurd (false≢true e), λ h. h.0)
-joined-accepts cpi (Judged (Failed Fld row n)) (Judged (Failed Bin row₂ m)) = (λ e. absurd (false≢true e), λ h. h.0)
-joined-accepts cpi (Judged (Failed Fld row n)) (Judged (Failed Fld row₂ m)) = (λ e. absurd (false≢true e), λ h. h.0)
+pub joined-accepts : (cpi : ℕ) (a b : Answer Verdict) → (accepts (joined_answer cpi a b) ≡ true) ↔ ((accepts a ≡ true) × (accepts b ≡ true))
+joined-accepts cpi (Err r) b = (λ e. absurd (false≢true e), λ h. h.0)
+joined-accepts cpi (Ok (Accepted n)) (Err r) = (λ e. absurd (false≢true e), λ h. h.1)
+joined-accepts cpi (Ok (Accepted n)) (Ok (Accepted m)) = (λ e. (refl, refl), λ h. refl)
+joined-accepts cpi (Ok (Accepted n)) (Ok (Failed Bin row m)) = (λ e. absurd (false≢true e), λ h. h.1)
+joined-accepts cpi (Ok (Accepted n)) (Ok (Failed Fld row m)) = (λ e. absurd (false≢true e), λ h. h.1)
+joined-accepts cpi (Ok (Failed rel row n)) (Err r) = (λ e. absurd (false≢true e), λ h. h.0)
+joined-accepts cpi (Ok (Failed Bin row n)) (Ok w) = (λ e. absurd (false≢true e), λ h. h.0)
+joined-accepts cpi (Ok (Failed Fld row n)) (Ok (Accepted m)) = (λ e. absurd (false≢true e), λ h. h.0)
+joined-accepts cpi (Ok (Failed Fld row n)) (Ok (Failed Bin row₂ m)) = (λ e. absurd (false≢true e), λ h. h.0)
+joined-accepts cpi (Ok (Failed Fld row n)) (Ok (Failed Fld row₂ m)) = (λ e. absurd (false≢true e), λ h. h.0)
 
 -- ---- by the numbers of the rows
 
@@ -170,7 +168,7 @@ failed_row : (v : Verdict) {rel : Relation} {row : ℕ} → failure_of v ≡ at 
 failed_row (Accepted n) e = let z : ◌≡◌ {A = ℕ} 0 1 = cc in absurd (omega arith)
 failed_row (Failed rel row n) e = (n, cc)
 
-pub rows_apart : (cpi : ℕ) (first listing : List ℕ) → allowed cpi ≡ true → ((i : ℕ) → get_or listing i 0 < 2 ^ 32) → validated listing ≡ Yes
+pub rows_apart : (cpi : ℕ) (first listing : List ℕ) → allowed cpi ≡ true → ((i : ℕ) → get_or listing i 0 < 2 ^ 32) → validated listing ≡ Ok tt
     → (rel : Relation) (row row₂ : ℕ) → failure_of (judged cpi listing first) ≡ at rel row → row < batch_row rel cpi row₂
 rows_apart cpi first listing size fit valid rel row row₂ e =
     let f = failed_row (judged cpi listing first) e in let n = failed-names cpi listing first size fit valid f.1 in

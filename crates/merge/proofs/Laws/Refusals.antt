@@ -1,6 +1,6 @@
 -- Given refusals of merging, by numbers: each question, and which is asked first.
 -- Assumes nothing.
-use Rattle.std.specs.Prelude.{◌≡◌, refl, true, false, not, List, [], ℕ, ◌*◌, ◌≤◌, ◌<◌, eqb, leb, length, set}
+use Rattle.std.specs.Prelude.{◌≡◌, refl, true, false, not, List, [], ℕ, ◌*◌, ◌≤◌, ◌<◌, eqb, leb, length, set, Err}
 use Rattle.std.proofs.Math.Path.{sym}
 use Rattle.std.proofs.Common.{ap, ap₂, ◌∙◌, arith}
 use borrow.Author.Tests.{eq-eqb, ne_eqb, lt-leb}
@@ -11,7 +11,6 @@ use Rattle.base.specs.Laws.Tests.{refused}
 use Rattle.field.specs.Gf.{of_bit, zero, same}
 use Rattle.field.specs.Gf.Laws.{zero≢one}
 use Rattle.field.specs.Gf.Tests.{same_true, same_self}
-use Rattle.layout.specs.declared.Asked.TheVariants.{No}
 use Rattle.layout.specs.Batch.{allowed, batch_words}
 use Rattle.layout.specs.Questions.{no}
 use Rattle.layout.specs.Laws.Questions.{if_yes_lem, if_no, called-no}
@@ -21,11 +20,12 @@ use Rattle.merge.specs.Merged.{merged}
 use Rattle.merge.specs.Calls.{sizes_asked, merge_asked, merge_called, differs, first_differing}
 use Rattle.merge.specs.Laws.Answers.{sizes-yes}
 use Rattle.merge.proofs.Laws.Given.{zeros, zeros-long, zero-at}
+use Rattle.layout.specs.declared.questions.Question.TheVariants.{PublicColumns}
 
 -- a call that is refused, and leaves what was there
 abbrev Refuses : ℕ → List ℕ → ℕ → List ℕ → List ℕ → ℕ → ℕ → Type 0
 Refuses cpi first cpi₂ second there number place =
-    merge_called cpi first cpi₂ second there ≡ record { answer = No (no number place); batch = there }
+    merge_called cpi first cpi₂ second there ≡ record { answer = Err (no number place); batch = there }
 
 pub record GivenRefusals (there : List ℕ) : Type 0 where
   -- 3 cycles are no size, the first's nor the second's; also where sizes differ
@@ -70,10 +70,10 @@ module _ (p : ℕ) (public : 4096 ≤ p) (inside : p < 8192) where
   unfolding merge_called merge_asked allowed
   column-differs there room =
       sym
-      (called-no (merge_asked 2 zeros 2 other (length there)) (no 20 p) (merged 2 zeros other) there
+      (called-no (merge_asked 2 zeros 2 other (length there)) (no PublicColumns p) (merged 2 zeros other) there
       (sym
-      (ap (λ (x : ℕ). No (no 20 x)) (sym first-is) ∙ refused _ _ _ (ap (leb 8192) first-is ∙ lt-leb 8192 p inside)
-      ∙ if_yes_lem No _
+      (ap (λ (x : ℕ). Err (no PublicColumns x)) (sym first-is) ∙ refused _ _ _ (ap (leb 8192) first-is ∙ lt-leb 8192 p inside)
+      ∙ if_yes_lem Err _
       (sizes-yes 2 (length zeros) 2 (length other) (length there)
       (record {
         size = refl;
@@ -86,13 +86,13 @@ module _ (p : ℕ) (public : 4096 ≤ p) (inside : p < 8192) where
 
 -- a no to a question on the sizes
 sizes-no : (cpi : ℕ) (first : List ℕ) (cpi₂ : ℕ) (second there : List ℕ) (number place : ℕ)
-    → sizes_asked cpi (length first) cpi₂ (length second) (length there) ≡ No (no number place)
+    → sizes_asked cpi (length first) cpi₂ (length second) (length there) ≡ Err (no number place)
     → Refuses cpi first cpi₂ second there number place
 unfolding merge_called merge_asked
 sizes-no cpi first cpi₂ second there number place e =
     sym
     (called-no (merge_asked cpi first cpi₂ second (length there)) (no number place) (merged cpi first second) there
-    (sym (if_no No _ e)))
+    (sym (if_no Err _ e)))
 
 pub given-refusals : (there : List ℕ) → GivenRefusals there
 unfolding sizes_asked allowed

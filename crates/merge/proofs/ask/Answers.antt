@@ -6,22 +6,23 @@ use native.Mathlib.Omega.{arith}
 use borrow.Author.Tests.{le-leb, lt-leb}
 use Rattle.base.specs.Tests.{first_from}
 use Rattle.base.specs.Laws.Tests.{passed, refused}
-use Rattle.layout.specs.declared.Asked.TheVariants.{No}
 use Rattle.layout.specs.Questions.{no}
 use Rattle.layout.specs.Laws.Questions.{if_yes_lem, asking}
 use Rattle.merge.specs.Calls.{differs, first_differing, merge_asked}
 use Rattle.merge.specs.Laws.Answers.{sized}
 use Rattle.merge.proofs.ask.Goals as goal
+use Rattle.layout.specs.declared.questions.Question.TheVariants.{PublicColumns}
+use Rattle.std.specs.Prelude.{Err}
 
 pub overflow_mul-end : goal.overflow_mul-end
-overflow_mul-end c = omega (arith, (sized _ _ _ _ _ (sym c.ask_sizes.ensures ∙ c.in-Yes.is)).few)
+overflow_mul-end c = omega (arith, (sized _ _ _ _ _ (sym c.ask_sizes.ensures ∙ c.in-Ok.is)).few)
 
 pub overflow_mul-first_cpi : goal.overflow_mul-first_cpi
-overflow_mul-first_cpi c = omega (arith, (sized _ _ _ _ _ (sym c.ask_sizes.ensures ∙ c.in-Yes.is)).few)
+overflow_mul-first_cpi c = omega (arith, (sized _ _ _ _ _ (sym c.ask_sizes.ensures ∙ c.in-Ok.is)).few)
 
 pub first_differing-place-requires : goal.first_differing-place-requires
 first_differing-place-requires c =
-    let s = sized _ _ _ _ _ (sym c.ask_sizes.ensures ∙ c.in-Yes.is) in (omega arith, (omega arith, omega arith))
+    let s = sized _ _ _ _ _ (sym c.ask_sizes.ensures ∙ c.in-Ok.is) in (omega arith, (omega arith, omega arith))
 
 -- the search finds the column that the definition names
 found : (cpi : ℕ) (first second : List ℕ) (n : ℕ) → n ≡ first_from (differs first second) (2048 * cpi) (4096 * cpi - 2048 * cpi)
@@ -32,15 +33,15 @@ pub returns-then-place-end : goal.returns-then-place-end
 unfolding merge_asked
 returns-then-place-end c =
     let e = found c.args.first_cpi c.args.first.now c.args.second.now _ c.first_differing-place.ensures in
-    ap (λ (p : ℕ). No (no 20 p)) e ∙ refused _ _ _ (lt-leb _ _ (subst (λ (n : ℕ). n < 4096 * c.args.first_cpi) e c.if-place-end.true))
-    ∙ if_yes_lem No _ (sym c.ask_sizes.ensures ∙ c.in-Yes.is)
+    ap (λ (p : ℕ). Err (no PublicColumns p)) e ∙ refused _ _ _ (lt-leb _ _ (subst (λ (n : ℕ). n < 4096 * c.args.first_cpi) e c.if-place-end.true))
+    ∙ if_yes_lem Err _ (sym c.ask_sizes.ensures ∙ c.in-Ok.is)
 
-pub returns-in-No : goal.returns-in-No
+pub returns-in-Err : goal.returns-in-Err
 unfolding merge_asked
-returns-in-No c = search asking
+returns-in-Err c = search asking
 
 pub returns-else-place-end : goal.returns-else-place-end
 unfolding merge_asked
 returns-else-place-end c =
     passed _ _ _ (le-leb _ _ (subst (λ (n : ℕ). 4096 * c.args.first_cpi ≤ n) (found c.args.first_cpi c.args.first.now c.args.second.now _ c.first_differing-place.ensures) c.if-place-end.false))
-    ∙ if_yes_lem No _ (sym c.ask_sizes.ensures ∙ c.in-Yes.is)
+    ∙ if_yes_lem Err _ (sym c.ask_sizes.ensures ∙ c.in-Ok.is)

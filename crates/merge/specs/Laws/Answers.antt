@@ -1,6 +1,6 @@
 -- What a yes to the questions of merging says, and when it is given.
 -- Assumes nothing.
-use Rattle.std.specs.Prelude.{◌≡◌, refl, true, List, ℕ, ◌+◌, ◌*◌, ◌≤◌, eqb, leb, length}
+use Rattle.std.specs.Prelude.{◌≡◌, refl, true, List, ℕ, ◌+◌, ◌*◌, ◌≤◌, eqb, leb, length, Ok}
 use Rattle.std.proofs.Math.Path.{sym, ap}
 use Rattle.std.proofs.Common.{subst, ◌∙◌, arith}
 use Rattle.std.proofs.Math.Bool.{false, not}
@@ -10,7 +10,6 @@ use Rattle.base.specs.Laws.Lists.{◌and◌}
 use Rattle.base.specs.Laws.Tests.{passed}
 use Rattle.field.specs.Gf.{same}
 use Rattle.field.specs.Gf.Tests.{same_true, same_self}
-use Rattle.layout.specs.declared.Asked.TheVariants.{Yes}
 use Rattle.layout.specs.Batch.{allowed, batch_words}
 use Rattle.layout.specs.Laws.Questions.{answered, both_yes, if_yes_lem}
 use Rattle.layout.specs.Laws.Sizes.{each-size, allowed-range}
@@ -36,7 +35,7 @@ pub record Sized (cpi words cpi₂ words₂ room : ℕ) : Type 0 where
   pub second-words : words₂ ≡ batch_words cpi
   pub room-words : room ≡ batch_words (2 * cpi)
 
-pub sized : (cpi words cpi₂ words₂ room : ℕ) → sizes_asked cpi words cpi₂ words₂ room ≡ Yes → Sized cpi words cpi₂ words₂ room
+pub sized : (cpi words cpi₂ words₂ room : ℕ) → sizes_asked cpi words cpi₂ words₂ room ≡ Ok tt → Sized cpi words cpi₂ words₂ room
 unfolding sizes_asked
 sized cpi words cpi₂ words₂ room e =
     let q1 = answered (allowed cpi) _ _ e in let q1₂ = answered (allowed cpi₂) _ _ q1.1 in
@@ -52,7 +51,7 @@ sized cpi words cpi₂ words₂ room e =
       room-words = eqb-true _ _ q2₃.0;
     }
 
-pub sizes-yes : (cpi words cpi₂ words₂ room : ℕ) → Sized cpi words cpi₂ words₂ room → sizes_asked cpi words cpi₂ words₂ room ≡ Yes
+pub sizes-yes : (cpi words cpi₂ words₂ room : ℕ) → Sized cpi words cpi₂ words₂ room → sizes_asked cpi words cpi₂ words₂ room ≡ Ok tt
 unfolding sizes_asked
 sizes-yes cpi words cpi₂ words₂ room s =
     sym
@@ -66,7 +65,7 @@ module _ (cpi : ℕ) (first : List ℕ) (cpi₂ : ℕ) (second : List ℕ) (room
     pub sizes-passed : Sized cpi (length first) cpi₂ (length second) room
     pub public : SamePublic cpi first second
 
-  pub all-passed : merge_asked cpi first cpi₂ second room ≡ Yes → Passed
+  pub all-passed : merge_asked cpi first cpi₂ second room ≡ Ok tt → Passed
   unfolding merge_asked
   all-passed e =
       let y = both_yes (sizes_asked cpi (length first) cpi₂ (length second) room) _ e in
@@ -79,7 +78,7 @@ module _ (cpi : ℕ) (first : List ℕ) (cpi₂ : ℕ) (second : List ℕ) (room
             (not-false _ (first-least (differs first second) (2048 * cpi) (2048 * cpi) x l (omega arith)));
       }
 
-  pub passed-all : Passed → merge_asked cpi first cpi₂ second room ≡ Yes
+  pub passed-all : Passed → merge_asked cpi first cpi₂ second room ≡ Ok tt
   unfolding merge_asked
   passed-all p =
       let none : first_differing cpi first second ≡ 2048 * cpi + 2048 * cpi =
@@ -93,7 +92,7 @@ module _ (cpi : ℕ) (first : List ℕ) (cpi₂ : ℕ) (second : List ℕ) (room
 
 -- batches of one size that fit: what is to be shown for a yes
 pub fitting-yes : (cpi : ℕ) (first second : List ℕ) (room : ℕ) → allowed cpi ≡ true → cpi ≤ 128 → length first ≡ batch_words cpi
-    → length second ≡ batch_words cpi → room ≡ batch_words (2 * cpi) → SamePublic cpi first second → merge_asked cpi first cpi second room ≡ Yes
+    → length second ≡ batch_words cpi → room ≡ batch_words (2 * cpi) → SamePublic cpi first second → merge_asked cpi first cpi second room ≡ Ok tt
 fitting-yes cpi first second room size few len long there same =
     passed-all cpi first cpi second room
     (record {

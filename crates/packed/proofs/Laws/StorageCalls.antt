@@ -1,14 +1,12 @@
 -- The calls of packed storage: where they say yes and where no, and their round trips.
 -- Assumes nothing.
-use Rattle.std.specs.Prelude.{◌≡◌, ℕ, ◌*◌, true, false, List, length, ◌==◌, ◌≢◌, refl}
+use Rattle.std.specs.Prelude.{◌≡◌, ℕ, ◌*◌, true, false, List, length, ◌==◌, ◌≢◌, refl, Err, Ok}
 use Rattle.std.proofs.Math.Path.{sym, ap, ap₂, subst}
 use Rattle.std.proofs.Common.{◌∙◌, eqb-true, eq-eqb, ne_eqb}
 use Rattle.std.proofs.Math.Decide.{ℕ_discrete}
 use Rattle.base.specs.Laws.Tests.{passed, refused}
-use Rattle.layout.specs.declared.Refusal.{Refusal}
-use Rattle.layout.specs.declared.Asked.{Asked}
-use Rattle.layout.specs.declared.Asked.TheVariants.{Yes, No}
-use Rattle.layout.specs.Questions.{no as refusal, if_yes, after}
+use Rattle.layout.specs.declared.questions.Refusal.{Refusal}
+use Rattle.layout.specs.Questions.{no as refusal, if_yes, after, Asked}
 use Rattle.layout.specs.Batch.{allowed, batch_words, batch_asked}
 use Rattle.layout.specs.Laws.Questions.{answered, both_yes, if_yes_lem, if_no, after-yes, called-yes, yes-batch}
 use Rattle.packed.specs.declared.order.Order.{Order}
@@ -22,14 +20,15 @@ use Rattle.packed.specs.RoundTrips.{Left, Joins, CallsKept}
 use Rattle.packed.specs.Laws.InWords.{with-length}
 use Rattle.packed.specs.Laws.Named.{asked-yes-in, in-asked-yes}
 use Rattle.packed.proofs.Laws.RoundTrips.{unpacked-length, unpacked-bits, kept}
+use Rattle.layout.specs.declared.questions.Question.TheVariants.{BatchSize, LowerBits, PackedLength}
 
 -- ---- what a yes says, and where it is said
 
 module _ (cpi : ℕ) where
-  room-yes : (room : ℕ) → room_asked cpi room ≡ Yes → room ≡ 32 * cpi
-  room-yes room e = eqb-true room (32 * cpi) (answered (room == 32 * cpi) Yes (refusal 18 0) e).0
+  room-yes : (room : ℕ) → room_asked cpi room ≡ Ok tt → room ≡ 32 * cpi
+  room-yes room e = eqb-true room (32 * cpi) (answered (room == 32 * cpi) (Ok tt) (refusal PackedLength 0) e).0
 
-  yes-room : (room : ℕ) → room ≡ 32 * cpi → room_asked cpi room ≡ Yes
+  yes-room : (room : ℕ) → room ≡ 32 * cpi → room_asked cpi room ≡ Ok tt
   yes-room room e = sym (passed _ _ _ (eq-eqb room (32 * cpi) e))
 
   -- questions 1 and 18 of words that have their length: what is left is the slice that is written
@@ -37,65 +36,65 @@ module _ (cpi : ℕ) where
   unfolding order_asked
   last-room read written ok r = sym (passed _ _ _ (eq-eqb read (32 * cpi) r) ∙ passed _ _ _ ok)
 
-  store-yes : (batch out : List ℕ) → store_asked cpi batch (length out) ≡ Yes → NamedIn cpi batch out × (lower_bits cpi batch ≡ true)
+  store-yes : (batch out : List ℕ) → store_asked cpi batch (length out) ≡ Ok tt → NamedIn cpi batch out × (lower_bits cpi batch ≡ true)
   unfolding store_asked
   store-yes batch out e =
       let y = both_yes (pack_asked cpi (length batch) (length out)) _ e in
-      (asked-yes-in cpi batch out y.0, (answered (lower_bits cpi batch) Yes (refusal 17 0) y.1).0)
+      (asked-yes-in cpi batch out y.0, (answered (lower_bits cpi batch) (Ok tt) (refusal LowerBits 0) y.1).0)
 
-  pub yes-store : (batch out : List ℕ) → NamedIn cpi batch out → lower_bits cpi batch ≡ true → store_asked cpi batch (length out) ≡ Yes
+  pub yes-store : (batch out : List ℕ) → NamedIn cpi batch out → lower_bits cpi batch ≡ true → store_asked cpi batch (length out) ≡ Ok tt
   unfolding store_asked
-  yes-store batch out h b = sym (passed _ _ _ b ∙ if_yes_lem No _ (in-asked-yes cpi batch out h))
+  yes-store batch out h b = sym (passed _ _ _ b ∙ if_yes_lem Err _ (in-asked-yes cpi batch out h))
 
   -- ---- the order of the questions
 
   -- 1 and 2 come first, whatever room there is and whatever the columns hold
-  pub batch-first : (batch : List ℕ) (room : ℕ) (r : Refusal) → batch_asked cpi (length batch) ≡ No r
-      → (pack_asked cpi (length batch) room ≡ No r) × (store_asked cpi batch room ≡ No r)
+  pub batch-first : (batch : List ℕ) (room : ℕ) (r : Refusal) → batch_asked cpi (length batch) ≡ Err r
+      → (pack_asked cpi (length batch) room ≡ Err r) × (store_asked cpi batch room ≡ Err r)
   unfolding store_asked pack_asked
   batch-first batch room r e =
-      let p : pack_asked cpi (length batch) room ≡ No r = sym (if_no No (room_asked cpi room) e) in (p, sym (if_no No _ p))
+      let p : pack_asked cpi (length batch) room ≡ Err r = sym (if_no Err (room_asked cpi room) e) in (p, sym (if_no Err _ p))
 
   -- then 18, whatever the columns hold
   pub room-first : (batch out : List ℕ) → allowed cpi ≡ true → length batch ≡ batch_words cpi → (length out ≢ 32 * cpi)
-      → store_asked cpi batch (length out) ≡ No (refusal 18 0)
+      → store_asked cpi batch (length out) ≡ Err (refusal PackedLength 0)
   unfolding store_asked pack_asked
   room-first batch out size words other =
-      let asked = refused _ Yes (No (refusal 18 0)) (ne_eqb (length out) (32 * cpi) other) in
-      sym (if_no No _ (sym (asked ∙ if_yes_lem No (room_asked cpi (length out)) (yes-batch cpi (length batch) size words))))
+      let asked = refused _ (Ok tt) (Err (refusal PackedLength 0)) (ne_eqb (length out) (32 * cpi) other) in
+      sym (if_no Err _ (sym (asked ∙ if_yes_lem Err (room_asked cpi (length out)) (yes-batch cpi (length batch) size words))))
 
   -- and 17 last
-  pub columns-last : (batch out : List ℕ) → NamedIn cpi batch out → lower_bits cpi batch ≡ false → store_asked cpi batch (length out) ≡ No (refusal 17 0)
+  pub columns-last : (batch out : List ℕ) → NamedIn cpi batch out → lower_bits cpi batch ≡ false → store_asked cpi batch (length out) ≡ Err (refusal LowerBits 0)
   unfolding store_asked
-  columns-last batch out h b = sym (refused _ Yes (No (refusal 17 0)) b ∙ if_yes_lem No _ (in-asked-yes cpi batch out h))
+  columns-last batch out h b = sym (refused _ (Ok tt) (Err (refusal LowerBits 0)) b ∙ if_yes_lem Err _ (in-asked-yes cpi batch out h))
 
   -- of a rearrangement 1 comes first, and then 18 of either slice
-  pub size-first : (read written : ℕ) → allowed cpi ≡ false → order_asked cpi read written ≡ No (refusal 1 0)
+  pub size-first : (read written : ℕ) → allowed cpi ≡ false → order_asked cpi read written ≡ Err (refusal BatchSize 0)
   unfolding order_asked
   size-first read written e = sym (refused _ _ _ e)
 
   pub either_room : (read written : ℕ) → allowed cpi ≡ true → ((read ≡ 32 * cpi) × (written ≡ 32 * cpi) → ⊥)
-      → order_asked cpi read written ≡ No (refusal 18 0)
+      → order_asked cpi read written ≡ Err (refusal PackedLength 0)
   unfolding order_asked
   either_room read written ok other =
       elim (ℕ_discrete read (32 * cpi)) [
-        | yes e ↦ last-room read written ok e ∙ sym (refused _ Yes (No (refusal 18 0)) (ne_eqb written (32 * cpi) (λ w. other (e, w))))
-        | no f ↦ sym (refused _ (room_asked cpi written) (No (refusal 18 0)) (ne_eqb read (32 * cpi) f) ∙ passed _ _ _ ok)
+        | yes e ↦ last-room read written ok e ∙ sym (refused _ (Ok tt) (Err (refusal PackedLength 0)) (ne_eqb written (32 * cpi) (λ w. other (e, w))))
+        | no f ↦ sym (refused _ (room_asked cpi written) (Err (refusal PackedLength 0)) (ne_eqb read (32 * cpi) f) ∙ passed _ _ _ ok)
       ]
 
-  order-yes : (read written : ℕ) → order_asked cpi read written ≡ Yes → (allowed cpi ≡ true) × ((read ≡ 32 * cpi) × (written ≡ 32 * cpi))
+  order-yes : (read written : ℕ) → order_asked cpi read written ≡ Ok tt → (allowed cpi ≡ true) × ((read ≡ 32 * cpi) × (written ≡ 32 * cpi))
   unfolding order_asked
   order-yes read written e =
-      let y = answered (allowed cpi) _ (refusal 1 0) e in let z = answered (read == 32 * cpi) _ (refusal 18 0) y.1 in
+      let y = answered (allowed cpi) _ (refusal BatchSize 0) e in let z = answered (read == 32 * cpi) _ (refusal PackedLength 0) y.1 in
       (y.0, (eqb-true read (32 * cpi) z.0, room-yes written z.1))
 
-  pub yes-order : (read written : ℕ) → allowed cpi ≡ true → read ≡ 32 * cpi → written ≡ 32 * cpi → order_asked cpi read written ≡ Yes
+  pub yes-order : (read written : ℕ) → allowed cpi ≡ true → read ≡ 32 * cpi → written ≡ 32 * cpi → order_asked cpi read written ≡ Ok tt
   yes-order read written ok r w = last-room read written ok r ∙ yes-room written w
 
   -- a question asked last
-  yes-behind : (q : Asked) → if_yes No q Yes ≡ q
-  yes-behind Yes = refl
-  yes-behind (No r) = refl
+  yes-behind : (q : Asked) → if_yes Err q (Ok tt) ≡ q
+  yes-behind (Ok _) = refl
+  yes-behind (Err r) = refl
 
   -- where a batch is packed with yes, both ways into cycle order ask the same of the slice that is written
   same-room : (batch out words : List ℕ) (n : ℕ) → NamedIn cpi batch out → lower_bits cpi batch ≡ true → length words ≡ 32 * cpi
@@ -104,9 +103,9 @@ module _ (cpi : ℕ) where
   same-room batch out words n h b e =
       last-room (length words) n h.size e
       ∙ sym (yes-behind (room_asked cpi n))
-      ∙ ap₂ (λ (q t : Asked). if_yes No q t) (if_yes_lem No (room_asked cpi n) (yes-batch cpi (length batch) h.size h.words)) (passed _ _ _ b)
+      ∙ ap₂ (λ (q t : Asked). if_yes Err q t) (if_yes_lem Err (room_asked cpi n) (yes-batch cpi (length batch) h.size h.words)) (passed _ _ _ b)
 
-  pub order-in : (words out : List ℕ) → order_asked cpi (length words) (length out) ≡ Yes → OrderIn cpi words out
+  pub order-in : (words out : List ℕ) → order_asked cpi (length words) (length out) ≡ Ok tt → OrderIn cpi words out
   order-in words out e =
       let o = order-yes (length words) (length out) e in record { size = o.0; read = o.1.0; room = o.1.1 }
 

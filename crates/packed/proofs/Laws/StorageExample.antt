@@ -1,7 +1,7 @@
 -- A batch of two cycles, all zero but for column 65 of cycle 1, which is batch column 131: in batch order bit 3 of word 2 is set, in cycle
 -- order bit 1 of word 33, and nothing else. With a 2 there instead, it is refused with 17.
 -- Assumes nothing.
-use Rattle.std.specs.Prelude.{◌≡◌, ℕ, ◌+◌, ◌*◌, ◌/◌, ◌%◌, Bool, true, false, cond, List, length, ◌==◌, ◌≢◌, nat_eq, slice_index, slice_index_or, refl}
+use Rattle.std.specs.Prelude.{◌≡◌, ℕ, ◌+◌, ◌*◌, ◌/◌, ◌%◌, Bool, true, false, cond, List, length, ◌==◌, ◌≢◌, nat_eq, slice_index, slice_index_or, refl, Err}
 use Rattle.std.proofs.Math.Path.{sym}
 use Rattle.std.proofs.Common.{ap, ◌∙◌, zero-add, arith, eq-eqb, ne_eqb}
 use Rattle.std.proofs.Math.Decide.{ℕ_discrete, dec_lt}
@@ -11,7 +11,6 @@ use Rattle.base.specs.Bits.{val}
 use Rattle.base.specs.Laws.Cases.{no_true}
 use Rattle.base.specs.Laws.From.{length_from, get_or-from}
 use Rattle.field.specs.Gf.Laws.{low-words}
-use Rattle.layout.specs.declared.Asked.TheVariants.{No}
 use Rattle.layout.specs.Questions.{no as refusal, after}
 use Rattle.layout.specs.Batch.{allowed, batch_words}
 use Rattle.layout.specs.Laws.Mapping.{witness-column}
@@ -23,6 +22,7 @@ use Rattle.packed.specs.RoundTrips.{Left, Joins}
 use Rattle.packed.specs.Laws.InWords.{with-length, with-bit, with-fit, same-words}
 use Rattle.packed.specs.Laws.Named.{bits_each}
 use Rattle.packed.proofs.Laws.StorageCalls.{yes-store, yes-order, columns-last, calls-kept}
+use Rattle.layout.specs.declared.questions.Question.TheVariants.{LowerBits}
 
 -- v in the low word of batch column 131
 unfoldable pub lone : ℕ → List ℕ
@@ -44,8 +44,8 @@ pub record StorageExamples (out : List ℕ) : Type 0 where
   pub to-batch : Left (to_batch_called 2 (only 2113) out) (only 131)
   pub unpacks : (target : List ℕ) → length target ≡ batch_words 2 → Joins 2 (unpacked 2 (only 131) target) (lone 1) target
   -- no bit
-  pub refused : pack_called 2 (lone 2) out ≡ record { answer = No (refusal 17 0); batch = out }
-  pub refused-straight : pack_cycles_called 2 (lone 2) out ≡ record { answer = No (refusal 17 0); batch = out }
+  pub refused : pack_called 2 (lone 2) out ≡ record { answer = Err (refusal LowerBits 0); batch = out }
+  pub refused-straight : pack_cycles_called 2 (lone 2) out ≡ record { answer = Err (refusal LowerBits 0); batch = out }
 
 -- ---- the batch by its words and columns
 
@@ -133,8 +133,8 @@ module _ (out : List ℕ) (room : length out ≡ 64) where
       (called-yes (order_asked 2 (length (only 131)) (length out)) (by_cycle 2 (only 131)) out (only 2113)
       (yes-order 2 (length (only 131)) (length out) size (with-length _ 64) room) (sym by-cycle-is))
 
-  refused : (made : List ℕ) → after (store_asked 2 (lone 2) (length out)) made out ≡ record { answer = No (refusal 17 0); batch = out }
-  refused made = sym (called-no (store_asked 2 (lone 2) (length out)) (refusal 17 0) made out (columns-last 2 (lone 2) out (lent 2) no_bits))
+  refused : (made : List ℕ) → after (store_asked 2 (lone 2) (length out)) made out ≡ record { answer = Err (refusal LowerBits 0); batch = out }
+  refused made = sym (called-no (store_asked 2 (lone 2) (length out)) (refusal LowerBits 0) made out (columns-last 2 (lone 2) out (lent 2) no_bits))
 
   pub storage-examples : StorageExamples out
   unfolding pack_called pack_cycles_called words_with from val

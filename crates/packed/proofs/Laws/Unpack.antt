@@ -1,6 +1,6 @@
 -- Packed words laid out as elements, turn by turn, and the batch that they make.
 -- Assumes nothing.
-use Rattle.std.specs.Prelude.{◌≡◌, ℕ, ◌+◌, ◌-◌, ◌*◌, ◌/◌, ◌%◌, ◌^◌, ◌<◌, ◌≤◌, Bool, List, length, ◌≢◌, slice_index, slice_set, refl}
+use Rattle.std.specs.Prelude.{◌≡◌, ℕ, ◌+◌, ◌-◌, ◌*◌, ◌/◌, ◌%◌, ◌^◌, ◌<◌, ◌≤◌, Bool, List, length, ◌≢◌, slice_index, slice_set, refl, Err, Ok}
 use Rattle.std.proofs.Common.{sym, ap, ◌∙◌, zero-add, div-one, arith, lt-ltb, le-ltb, eq-eqb, ne_eqb, length-set, shr-shr, ext_get_or, get_or-set_same, get_or-set_other}
 use Rattle.std.proofs.Math.Decide.{ℕ_discrete, dec_lt}
 use Rattle.base.specs.Bits.{digit, bit_at}
@@ -8,8 +8,7 @@ use Rattle.base.specs.Lists.{from}
 use Rattle.base.specs.Laws.Numbers.{digit-of}
 use Rattle.base.specs.Laws.Tests.{passed, refused}
 use Rattle.base.specs.Laws.From.{length_from, get_or-from}
-use Rattle.layout.specs.declared.Refusal.{Refusal}
-use Rattle.layout.specs.declared.Asked.TheVariants.{Yes, No}
+use Rattle.layout.specs.declared.questions.Refusal.{Refusal}
 use Rattle.layout.specs.Laws.Questions.{called-yes, called-no}
 use Rattle.layout.specs.Laws.Sizes.{allowed-range}
 use Rattle.packed.specs.Packed.{pack_asked}
@@ -126,18 +125,18 @@ unpacked-out cpi words before after s h =
 -- ---- the call
 
 module _ (cpi : ℕ) (words batch : List ℕ) where
-  pub unpack-in : pack_asked cpi (length batch) (length words) ≡ Yes → UnpackIn words batch
+  pub unpack-in : pack_asked cpi (length batch) (length words) ≡ Ok tt → UnpackIn words batch
   unpack-in e =
       let h = asked-yes-in cpi batch words e in let few = (allowed-range cpi h.size).1 in
       record { few = omega (arith, h.words, few); inside = omega (arith, h.words, h.room) }
 
-  pub unpack-none : (r : Refusal) → pack_asked cpi (length batch) (length words) ≡ No r
-      → record { answer = No r; batch = batch } ≡ unpack_called cpi words batch
+  pub unpack-none : (r : Refusal) → pack_asked cpi (length batch) (length words) ≡ Err r
+      → record { answer = Err r; batch = batch } ≡ unpack_called cpi words batch
   unfolding unpack_called
   unpack-none r e = called-no (pack_asked cpi (length batch) (length words)) r (unpacked cpi words batch) batch e
 
-  pub unpack-yes : (new : List ℕ) → pack_asked cpi (length batch) (length words) ≡ Yes → Unpacked words (length words) batch new
-      → record { answer = Yes; batch = new } ≡ unpack_called cpi words batch
+  pub unpack-yes : (new : List ℕ) → pack_asked cpi (length batch) (length words) ≡ Ok tt → Unpacked words (length words) batch new
+      → record { answer = Ok tt; batch = new } ≡ unpack_called cpi words batch
   unfolding unpack_called
   unpack-yes new e h =
       called-yes (pack_asked cpi (length batch) (length words)) (unpacked cpi words batch) batch new e

@@ -11,7 +11,7 @@ unfolding pack_asked
 ask_batch-requires c = search rules
 
 pub overflow_mul-cpi : goal.overflow_mul-cpi
-overflow_mul-cpi c = omega (arith, allowed-range _ (batch-yes _ _ (sym c.ask_batch.ensures ∙ c.in-Yes.is)).0)
+overflow_mul-cpi c = omega (arith, allowed-range _ (batch-yes _ _ (sym c.ask_batch.ensures ∙ c.in-Ok.is)).0)
 
 pub refused-requires : goal.refused-requires
 unfolding pack_asked
@@ -21,9 +21,9 @@ pub returns-then-room-cpi : goal.returns-then-room-cpi
 unfolding pack_asked
 returns-then-room-cpi c = search asking
 
-pub returns-in-No : goal.returns-in-No
+pub returns-in-Err : goal.returns-in-Err
 unfolding pack_asked
-returns-in-No c = search asking
+returns-in-Err c = search asking
 
 pub returns-else-room-cpi : goal.returns-else-room-cpi
 unfolding pack_asked

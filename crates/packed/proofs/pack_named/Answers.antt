@@ -19,10 +19,10 @@ pub answer-requires : goal.answer-requires
 unfolding named_called
 answer-requires c = search rules
 
-pub returns-in-No : goal.returns-in-No
+pub returns-in-Err : goal.returns-in-Err
 unfolding named_called
-returns-in-No c = search asking
+returns-in-Err c = search asking
 
-pub returns-in-Yes : goal.returns-in-Yes
+pub returns-in-Ok : goal.returns-in-Ok
 unfolding named_called
-returns-in-Yes c = search (called-named, asked-yes-in, told)
+returns-in-Ok c = search (called-named, asked-yes-in, told)

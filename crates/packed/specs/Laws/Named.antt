@@ -1,6 +1,6 @@
 -- The packed words of the columns that rows name, and whether these are bits, from both ranges.
 -- Assumes nothing.
-use Rattle.std.specs.Prelude.{◌≡◌, ℕ, zero, suc, ◌+◌, ◌*◌, ◌/◌, ◌%◌, ◌^◌, ◌<◌, ◌≤◌, Bool, true, cond, not, ◌&&◌, ◌↔◌, List, length, ◌==◌, ◌≢◌, bit_or, slice_index, refl}
+use Rattle.std.specs.Prelude.{◌≡◌, ℕ, zero, suc, ◌+◌, ◌*◌, ◌/◌, ◌%◌, ◌^◌, ◌<◌, ◌≤◌, Bool, true, cond, not, ◌&&◌, ◌↔◌, List, length, ◌==◌, ◌≢◌, bit_or, slice_index, refl, Err, Ok}
 use Rattle.std.proofs.Math.Path.{sym, ap, ap₂}
 use Rattle.std.proofs.Common.{subst, ◌∙◌, ⊎_elim, eq-or-lt_of_le, mod-lt, div-add-mod', div-lt_iff_lt-mul, le-div_iff_mul-le, mul-le-mul_right, zero-add, zero-mul, add-mul, mul-div_cancel, arith, ext_get_or}
 use Rattle.std.proofs.Math.Decide.{ℕ_discrete, dec_lt}
@@ -12,15 +12,12 @@ use Rattle.base.specs.Laws.Tests.{passed, refused, both}
 use Rattle.base.specs.Laws.From.{length_from, get_or-from}
 use Rattle.base.specs.Laws.Compared.{or-none}
 use Rattle.field.specs.Gf.{is_bit}
-use Rattle.layout.specs.declared.Asked.TheVariants.{Yes, No}
 use Rattle.layout.specs.Batch.{allowed, exponent_of, batch_words, batch_asked}
-use Rattle.layout.specs.Questions.{no as refusal}
+use Rattle.layout.specs.Questions.{no as refusal, Answer}
 use Rattle.layout.specs.Laws.Questions.{answered, both_yes, if_yes_lem, if_no, batch-yes, yes-batch}
 use Rattle.layout.specs.Laws.Sizes.{allowed-range}
 use Rattle.layout.specs.Laws.Exponent.{shift-and-mask}
 use Rattle.verdict.specs.Row.{element_at}
-use Rattle.packed.specs.declared.Packing.{Packing}
-use Rattle.packed.specs.declared.Packing.TheVariants.{Refused}
 use Rattle.packed.specs.Packed.{pack_asked, NamedCalled, answer_of, not_packed, named_called, packed_word, named_word, packed_at, packed_named, bits_from, named_bits}
 use Rattle.packed.specs.Seen.{BitAt}
 use Rattle.packed.specs.Columns.{BitsIn}
@@ -29,6 +26,7 @@ use Rattle.packed.specs.One.{InRow}
 use Rattle.packed.specs.Named.{NamedIn, Named}
 use Rattle.packed.specs.Laws.Seen.{bit-words-are}
 use Rattle.packed.specs.Laws.One.{row-range}
+use Rattle.layout.specs.declared.questions.Question.TheVariants.{PackedLength}
 
 -- ---- the test of a stretch of batch columns, by column and cycle
 
@@ -148,25 +146,25 @@ one-named {bad = r} {batch = b} {before = p} {after = q} e h = subst (λ (n : �
 -- ---- the call
 
 module _ (cpi : ℕ) (batch out : List ℕ) where
-  pub asked-yes-in : pack_asked cpi (length batch) (length out) ≡ Yes → NamedIn cpi batch out
+  pub asked-yes-in : pack_asked cpi (length batch) (length out) ≡ Ok tt → NamedIn cpi batch out
   unfolding pack_asked
   asked-yes-in e =
       let y = both_yes (batch_asked cpi (length batch)) _ e in let b = batch-yes cpi (length batch) y.0 in
-      let r = answered (length out == 32 * cpi) Yes (refusal 18 0) y.1 in
+      let r = answered (length out == 32 * cpi) (Ok tt) (refusal PackedLength 0) y.1 in
       record { size = b.0; words = b.1; room = eqb-true (length out) (32 * cpi) r.0 }
 
-  pub in-asked-yes : NamedIn cpi batch out → pack_asked cpi (length batch) (length out) ≡ Yes
+  pub in-asked-yes : NamedIn cpi batch out → pack_asked cpi (length batch) (length out) ≡ Ok tt
   unfolding pack_asked
   in-asked-yes h =
-      sym (passed _ _ _ (eq-eqb (length out) (32 * cpi) h.room) ∙ if_yes_lem No _ (yes-batch cpi (length batch) h.size h.words))
+      sym (passed _ _ _ (eq-eqb (length out) (32 * cpi) h.room) ∙ if_yes_lem Err _ (yes-batch cpi (length batch) h.size h.words))
 
   -- any other room is refused with 18, and what is there stays
   pub room-refused : allowed cpi ≡ true → length batch ≡ batch_words cpi → (length out ≢ 32 * cpi)
-      → named_called cpi batch out ≡ record { answer = Refused (record { number = 18; place = 0 }); out = out }
+      → named_called cpi batch out ≡ record { answer = Err (record { number = 18; place = 0 }); out = out }
   unfolding named_called pack_asked
   room-refused size words other =
-      let first = if_yes_lem No (cond (length out == 32 * cpi) Yes (No (refusal 18 0))) (yes-batch cpi (length batch) size words) in
-      let asked = refused _ Yes (No (refusal 18 0)) (ne_eqb (length out) (32 * cpi) other) ∙ first in
+      let first = if_yes_lem Err (cond (length out == 32 * cpi) (Ok tt) (Err (refusal PackedLength 0))) (yes-batch cpi (length batch) size words) in
+      let asked = refused _ (Ok tt) (Err (refusal PackedLength 0)) (ne_eqb (length out) (32 * cpi) other) ∙ first in
       sym (if_no (not_packed out) (record { answer = answer_of (named_bits cpi batch); out = packed_named cpi batch out }) (sym asked))
 
   none-bad : {after : List ℕ} (bad : ℕ) → Named cpi batch out after bad → (bad == 0) ≡ named_bits cpi batch
@@ -176,15 +174,15 @@ module _ (cpi : ℕ) (batch out : List ℕ) where
       go (yes e) = eq-eqb bad 0 e ∙ sym (n.bits.0 e)
       go (no f) = ne_eqb bad 0 f ∙ sym (no_true (named_bits cpi batch) (λ e. f (n.bits.1 e)))
 
-  pub called-named : NamedIn cpi batch out → {after : List ℕ} {bad : ℕ} → Named cpi batch out after bad → {p : Packing}
+  pub called-named : NamedIn cpi batch out → {after : List ℕ} {bad : ℕ} → Named cpi batch out after bad → {p : Answer Bool}
       → p ≡ answer_of (bad == 0) → ◌≡◌ {A = NamedCalled} (record { answer = p; out = after }) (named_called cpi batch out)
   unfolding named_called
   called-named h {after} {bad} n e =
-      ap₂ (λ (a : Packing) (o : List ℕ). record { answer = a; out = o }) (e ∙ ap answer_of (none-bad bad n))
+      ap₂ (λ (a : Answer Bool) (o : List ℕ). record { answer = a; out = o }) (e ∙ ap answer_of (none-bad bad n))
       (named-out cpi batch out after bad h.room n) ∙ if_yes_lem (not_packed out) _ (in-asked-yes h)
 
   -- what the call says, read back where the questions are passed
-  pub called_is : NamedIn cpi batch out → {a : Packing} {after : List ℕ}
+  pub called_is : NamedIn cpi batch out → {a : Answer Bool} {after : List ℕ}
       → ◌≡◌ {A = NamedCalled} (record { answer = a; out = after }) (named_called cpi batch out)
       → (a ≡ answer_of (named_bits cpi batch)) × (after ≡ packed_named cpi batch out)
   unfolding named_called

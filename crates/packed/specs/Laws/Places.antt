@@ -1,27 +1,25 @@
 -- A bit's place in batch order and its place in cycle order: the layout's mapping and its way back, which undo each other.
 -- Assumes nothing.
-use Rattle.std.specs.Prelude.{◌≡◌, ℕ, ◌+◌, ◌*◌, ◌/◌, ◌%◌, ◌<◌, true}
+use Rattle.std.specs.Prelude.{◌≡◌, ℕ, ◌+◌, ◌*◌, ◌/◌, ◌%◌, ◌<◌, true, Err, Ok}
 use Rattle.std.proofs.Math.Path.{sym, ap, ap₂}
 use Rattle.std.proofs.Common.{◌∙◌, mod-lt, div-lt_iff_lt-mul, lt-ltb}
 use native.Mathlib.Omega.{arith}
 use Rattle.base.specs.Laws.Tests.{passed}
-use Rattle.layout.specs.declared.ColumnAnswer.{ColumnAnswer}
-use Rattle.layout.specs.declared.ColumnAnswer.TheVariants.{At, Refused as NoColumn}
-use Rattle.layout.specs.declared.CycleColumnAnswer.{CycleColumnAnswer}
-use Rattle.layout.specs.declared.CycleColumnAnswer.TheVariants.{At as In, Refused as NoCycleColumn}
-use Rattle.layout.specs.Batch.{allowed, column_at, mapped, unmapped}
+use Rattle.layout.specs.Batch.{allowed, column_at, mapped, unmapped, cycle_column}
 use Rattle.layout.specs.Laws.Mapping.{column-below, back-of-mapped, mapped-of-back}
 use Rattle.layout.specs.Laws.Sizes.{allowed-range}
 use Rattle.packed.specs.Storage.{in_batch, in_cycles}
+use Rattle.layout.specs.Questions.{Answer}
+use Rattle.layout.specs.declared.CycleColumn.{CycleColumn}
 
 -- the bit that an answer of the way back names in cycle order, and one of the mapping in batch order
-placed : CycleColumnAnswer → ℕ
-placed (In c d) = 2048 * d + c
-placed (NoCycleColumn _) = 0
+placed : Answer CycleColumn → ℕ
+placed (cycle_column c d) = 2048 * d + c
+placed (Err _) = 0
 
-found : ColumnAnswer → ℕ
-found (At b) = b
-found (NoColumn _) = 0
+found : Answer ℕ → ℕ
+found (Ok b) = b
+found (Err _) = 0
 
 module _ (cpi : ℕ) (ok : allowed cpi ≡ true) where
   placed-is : (x : ℕ) → x < 2048 * cpi → placed (unmapped cpi x) ≡ in_cycles cpi x

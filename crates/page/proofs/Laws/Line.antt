@@ -1,6 +1,6 @@
 -- The line of an answer has at most 86 bytes.
 -- Assumes nothing.
-use Rattle.std.specs.Prelude.{◌≡◌, refl, ◌++◌, ◌≤◌, length}
+use Rattle.std.specs.Prelude.{◌≡◌, refl, ◌++◌, ◌≤◌, length, Err, Ok}
 use Rattle.std.proofs.Common.{arith, length-append}
 use Rattle.base.specs.Text.{ascii}
 use Rattle.text.specs.Digits.{decimal}
@@ -10,9 +10,8 @@ use Rattle.circuit.specs.declared.Relation.TheVariants.{Bin, Fld}
 use Rattle.verdict.specs.declared.Counts.{Counts}
 use Rattle.verdict.specs.declared.Verdict.{Verdict}
 use Rattle.verdict.specs.declared.Verdict.TheVariants.{Accepted, Failed}
-use Rattle.verdict.specs.declared.CheckAnswer.{CheckAnswer}
-use Rattle.verdict.specs.declared.CheckAnswer.TheVariants.{Judged, Refused}
 use Rattle.page.specs.Line.{failed_text, counts_text, verdict_line, answer_line}
+use Rattle.layout.specs.Questions.{Answer}
 
 counts-short : (n : Counts) → length (counts_text n) ≤ 50
 counts-short n =
@@ -43,9 +42,9 @@ verdict-short (Failed rel row n) =
       counts-short n,
     )
 
-pub line-short : (a : CheckAnswer) → length (answer_line a) ≤ 86
-line-short (Judged v) = verdict-short v
-line-short (Refused r) =
+pub line-short : (a : Answer Verdict) → length (answer_line a) ≤ 86
+line-short (Ok v) = verdict-short v
+line-short (Err r) =
     omega (
       arith,
       length-append (ascii "refused " ++ decimal r.number) (ascii "\n"),

@@ -11,12 +11,12 @@ unfolding laid_out
 ask_batch-requires c = search rules
 
 pub lay_row-requires : goal.lay_row-requires
-lay_row-requires c = batch-yes _ _ (sym c.ask_batch.ensures ∙ c.in-Yes.is)
+lay_row-requires c = batch-yes _ _ (sym c.ask_batch.ensures ∙ c.in-Ok.is)
 
-pub returns-in-No : goal.returns-in-No
+pub returns-in-Err : goal.returns-in-Err
 unfolding laid_out
-returns-in-No c = search asking
+returns-in-Err c = search asking
 
-pub returns-in-Yes : goal.returns-in-Yes
+pub returns-in-Ok : goal.returns-in-Ok
 unfolding laid_out
-returns-in-Yes c = search asking
+returns-in-Ok c = search asking

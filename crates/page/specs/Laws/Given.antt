@@ -1,10 +1,9 @@
 -- A given row, laid out by computation in a batch of four cycles line by line; and given calls, with what they answer and leave.
 -- Assumes nothing.
-use Rattle.std.specs.Prelude.{◌≡◌, refl, List, [], ◌∷◌, ℕ, set, replicate}
+use Rattle.std.specs.Prelude.{◌≡◌, refl, List, [], ◌∷◌, ℕ, set, replicate, Err, Ok}
 use Rattle.base.specs.Text.{ascii}
 use Rattle.text.specs.Digits.{decimal_in, right, hex}
 use Rattle.field.specs.Gf.Element.{value-words}
-use Rattle.layout.specs.declared.Asked.TheVariants.{Yes, No}
 use Rattle.layout.specs.Batch.{allowed, batch_asked, column_at}
 use Rattle.layout.specs.Questions.{no}
 use Rattle.layout.specs.Segments.{segments, name_in, segment_name}
@@ -16,13 +15,12 @@ use Rattle.circuit.specs.Parse.{parse}
 use Rattle.circuit.specs.Valid.{after_mark, after_term, after_word, valid_from, validated}
 use Rattle.circuit.specs.Found.{until, row_at, found}
 use Rattle.verdict.specs.declared.Verdict.TheVariants.{Accepted, Failed}
-use Rattle.verdict.specs.declared.CheckAnswer.TheVariants.{Judged}
 use Rattle.verdict.specs.Row.{cycle_of}
 use Rattle.verdict.specs.Counts.{counts}
-use Rattle.page.specs.declared.BytesAnswer.TheVariants.{Of, Refused}
 use Rattle.page.specs.Line.{answer_line}
 use Rattle.page.specs.Lines.{head_line, line_of, term_line, row_lines}
 use Rattle.page.specs.Pages.{page_count, page_bytes, sides_at, bytes_for, laid_at, laid_out}
+use Rattle.layout.specs.declared.questions.Question.TheVariants.{BatchLength, BatchSize, CycleRange, PageLength, RowSought, TermOrder}
 
 -- bin row 5: two terms on A, the second of coefficient zero, one on B, and a public column on C
 abbrev listing : List ℕ
@@ -48,22 +46,22 @@ pub record Given : Type 0 where
   pub one_line : page_bytes 1 ≡ 3600
   pub one-page : page_bytes 60 ≡ 3600
   pub two-pages : page_bytes 61 ≡ 7200
-  pub bytes : bytes_for listing Bin 5 ≡ Of 3600
-  pub no_row : bytes_for listing Fld 5 ≡ Refused (no 13 0)
+  pub bytes : bytes_for listing Bin 5 ≡ Ok 3600
+  pub no_row : bytes_for listing Fld 5 ≡ Err (no RowSought 0)
   pub fld-head : head_line Fld 99 ≡ ascii "fld      99                                                 "
-  pub no-order : bytes_for out_of_order Bin 5 ≡ Refused (no 10 2)
+  pub no-order : bytes_for out_of_order Bin 5 ≡ Err (no TermOrder 2)
   -- the lines of a failure in fld, and of four cycles accepted
-  pub fld-line : answer_line (Judged (Failed Fld 1 (counts 483 2))) ≡ ascii "failed fld row=1 bin=483 fld=2\n"
-  pub four-line : answer_line (Judged (Accepted (counts 1932 124))) ≡ ascii "accepted bin=1932 fld=124\n"
+  pub fld-line : answer_line (Ok (Failed Fld 1 (counts 483 2))) ≡ ascii "failed fld row=1 bin=483 fld=2\n"
+  pub four-line : answer_line (Ok (Accepted (counts 1932 124))) ≡ ascii "accepted bin=1932 fld=124\n"
   -- the call with its page lent; and with things wrong, of which the question that is asked first counts: its number, its place, and
   -- every byte as it came
-  pub laid_out_lem : (laid_out 4 listing four Bin 5 3 (replicate 3600 7)).answer ≡ Yes
-  pub size : laid_out 3 out_of_order four Bin 6 4 (replicate 3599 7) ≡ record { answer = No (no 1 0); page = replicate 3599 7 }
-  pub batch : laid_out 8 out_of_order four Bin 6 8 (replicate 3599 7) ≡ record { answer = No (no 2 0); page = replicate 3599 7 }
-  pub order : laid_out 4 out_of_order four Bin 6 4 (replicate 3599 7) ≡ record { answer = No (no 10 2); page = replicate 3599 7 }
-  pub row : laid_out 4 listing four Bin 6 4 (replicate 3599 7) ≡ record { answer = No (no 13 0); page = replicate 3599 7 }
-  pub room : laid_out 4 listing four Bin 5 4 (replicate 3599 7) ≡ record { answer = No (no 16 0); page = replicate 3599 7 }
-  pub cycle : laid_out 4 listing four Bin 5 4 (replicate 3600 7) ≡ record { answer = No (no 15 0); page = replicate 3600 7 }
+  pub laid_out_lem : (laid_out 4 listing four Bin 5 3 (replicate 3600 7)).answer ≡ Ok tt
+  pub size : laid_out 3 out_of_order four Bin 6 4 (replicate 3599 7) ≡ record { answer = Err (no BatchSize 0); page = replicate 3599 7 }
+  pub batch : laid_out 8 out_of_order four Bin 6 8 (replicate 3599 7) ≡ record { answer = Err (no BatchLength 0); page = replicate 3599 7 }
+  pub order : laid_out 4 out_of_order four Bin 6 4 (replicate 3599 7) ≡ record { answer = Err (no TermOrder 2); page = replicate 3599 7 }
+  pub row : laid_out 4 listing four Bin 6 4 (replicate 3599 7) ≡ record { answer = Err (no RowSought 0); page = replicate 3599 7 }
+  pub room : laid_out 4 listing four Bin 5 4 (replicate 3599 7) ≡ record { answer = Err (no PageLength 0); page = replicate 3599 7 }
+  pub cycle : laid_out 4 listing four Bin 5 4 (replicate 3600 7) ≡ record { answer = Err (no CycleRange 0); page = replicate 3600 7 }
 
 pub given : Given
 unfolding right decimal_in segments name_in segment_name column_at clean_of word_of parse after_mark after_term after_word valid_from validated

@@ -1,20 +1,18 @@
 -- What a call that is answered with yes leaves is what a bench page shows.
 -- Assumes nothing.
-use Rattle.std.specs.Prelude.{◌≡◌, false, List, [], ◌∷◌, length, get_or, take, drop}
+use Rattle.std.specs.Prelude.{◌≡◌, false, List, [], ◌∷◌, length, get_or, take, drop, Ok}
 use Rattle.std.proofs.Common.{sym, ◌∙◌, add-one, arith, length-drop, length-take-le, get_or-drop, get_or-take}
 use Rattle.std.proofs.Math.Path.{ap, subst}
 use Prim.Native.Nat.{ℕ, ◌+◌, ◌-◌, ◌%◌, ◌^◌, ◌<◌}
 use Rattle.base.specs.Laws.Lists.{get_or-mapped}
 use Rattle.field.specs.Gf.{value}
-use Rattle.layout.specs.declared.Asked.TheVariants.{Yes}
 use Rattle.layout.specs.Batch.{column_at}
 use Rattle.text.specs.Digits.{right}
 use Rattle.circuit.specs.declared.Coefficient.{Coefficient}
 use Rattle.circuit.specs.declared.Side.{Side}
 use Rattle.circuit.specs.declared.Relation.{Relation}
-use Rattle.circuit.specs.declared.search.Found.TheVariants.{At}
 use Rattle.circuit.specs.Words.{is_mark, side_of, coefficient_of, word_of}
-use Rattle.circuit.specs.Found.{rows_a_cycle}
+use Rattle.circuit.specs.Found.{rows_a_cycle, place_at}
 use Rattle.circuit.specs.Batched.{batch_row}
 use Rattle.circuit.specs.Reader.{row_read}
 use Rattle.circuit.specs.Laws.Search.{until-past}
@@ -71,7 +69,7 @@ module _ (cpi : ℕ) (batch : List ℕ) (d : ℕ) (b : InBatch cpi d batch) wher
 
 -- ---- the page
 
-module _ (cpi : ℕ) (listing batch : List ℕ) (rel : Relation) (n d start end : ℕ) (place : row_read listing rel n ≡ At start end)
+module _ (cpi : ℕ) (listing batch : List ℕ) (rel : Relation) (n d start end : ℕ) (place : row_read listing rel n ≡ place_at start end)
     (b : InBatch cpi d batch) where
   abbrev lines : List (List ℕ)
   lines = row_lines cpi batch d rel n (sides_at listing start)
@@ -125,7 +123,7 @@ module _ (cpi : ℕ) (listing batch : List ℕ) (rel : Relation) (n d start end 
       }
 
 pub shown : (cpi : ℕ) (listing batch : List ℕ) (rel : Relation) (n d : ℕ) (there : List ℕ)
-    → (laid_out cpi listing batch rel n d there).answer ≡ Yes → Shown cpi listing batch rel n d
+    → (laid_out cpi listing batch rel n d there).answer ≡ Ok tt → Shown cpi listing batch rel n d
     (laid_out cpi listing batch rel n d there).page
 shown cpi listing batch rel n d there y =
     let l = laid_out_lem cpi listing batch rel n d there y in

@@ -1,11 +1,9 @@
 -- Where a term's column stands, and that the mapping refuses no column of a cycle of the batch.
 -- Assumes nothing.
-use Rattle.std.specs.Prelude.{◌≡◌, Bool, true, false, cond, List, ℕ, ◌<◌, ◌%◌, ◌^◌, eqb}
+use Rattle.std.specs.Prelude.{◌≡◌, Bool, true, false, cond, List, ℕ, ◌<◌, ◌%◌, ◌^◌, eqb, Err, Ok}
 use Rattle.std.proofs.Common.{sym, ap, ◌∙◌, arith}
 use Rattle.field.specs.Gf.{value}
-use Rattle.layout.specs.declared.Refusal.{Refusal}
-use Rattle.layout.specs.declared.ColumnAnswer.{ColumnAnswer}
-use Rattle.layout.specs.declared.ColumnAnswer.TheVariants.{At, Refused}
+use Rattle.layout.specs.declared.questions.Refusal.{Refusal}
 use Rattle.layout.specs.Batch.{allowed, column_at, mapped}
 use Rattle.layout.specs.Segments.{segment_name}
 use Rattle.layout.specs.Laws.Mapping.{mapped_at}
@@ -18,17 +16,18 @@ use Rattle.circuit.specs.Words.{is_mark, word_of, relation_of, side_of, coeffici
 use Rattle.verdict.specs.Row.{element_at, cycle_of}
 use Rattle.page.specs.Lines.{line_of, term_line}
 use Rattle.page.specs.Promises.{Short}
+use Rattle.layout.specs.Questions.{Answer}
 
 module _ (cpi c d : ℕ) where
   -- what the mapping answers is the batch column
-  pub placed-column : (place : ℕ) → allowed cpi ≡ true → c < 4096 → d < cpi → mapped 4096 cpi c d ≡ At place → place ≡ column_at cpi c d
+  pub placed-column : (place : ℕ) → allowed cpi ≡ true → c < 4096 → d < cpi → mapped 4096 cpi c d ≡ Ok place → place ≡ column_at cpi c d
   placed-column place size hc hd e = ap told (sym e ∙ mapped_at cpi size c d hc hd)
     where
-      told : ColumnAnswer → ℕ
-      told (At b) = b
-      told (Refused r) = 0
+      told : Answer ℕ → ℕ
+      told (Ok b) = b
+      told (Err r) = 0
 
-  pub never-refused : (r : Refusal) → allowed cpi ≡ true → c < 4096 → d < cpi → mapped 4096 cpi c d ≡ Refused r → ⊥
+  pub never-refused : (r : Refusal) → allowed cpi ≡ true → c < 4096 → d < cpi → mapped 4096 cpi c d ≡ Err r → ⊥
   never-refused r size hc hd e = let q = sym e ∙ mapped_at cpi size c d hc hd in let z : ◌≡◌ {A = ℕ} 0 1 = cc in omega arith
 
 -- the line of a term, where its batch column is known

@@ -1,6 +1,6 @@
 -- What is read off a page are the numbers: the head's batch row, a term's batch column, and its element.
 -- Assumes nothing.
-use Rattle.std.specs.Prelude.{◌≡◌, List, [], ◌∷◌, ◌++◌, ℕ, ◌-◌, ◌+◌, ◌*◌, ◌%◌, ◌^◌, ◌<◌, length, get_or, take, drop}
+use Rattle.std.specs.Prelude.{◌≡◌, List, [], ◌∷◌, ◌++◌, ℕ, ◌-◌, ◌+◌, ◌*◌, ◌%◌, ◌^◌, ◌<◌, length, get_or, take, drop, Ok}
 use Rattle.std.proofs.Math.Path.{ap}
 use Rattle.std.proofs.Common.{◌∙◌, arith, length-append}
 use Rattle.base.specs.Text.{blanks}
@@ -9,7 +9,6 @@ use Rattle.text.specs.Laws.ReadBack.{stands_for, read-hex, read_right}
 use Rattle.field.specs.Gf.{value}
 use Rattle.field.specs.Gf.Element.{value-lt}
 use Rattle.field.specs.Gf.Laws.{proper-words}
-use Rattle.layout.specs.declared.ColumnAnswer.TheVariants.{At}
 use Rattle.layout.specs.Batch.{column_at, mapped}
 use Rattle.circuit.specs.declared.Relation.{Relation}
 use Rattle.verdict.specs.Row.{cycle_of}
@@ -33,7 +32,7 @@ head_read rel row h = ap (stands_for 10) field ∙ read_right 7 row (omega arith
         (length-append (relation_text rel) (blanks 1) ∙ omega (arith, relation-three rel)) (seven row h)
 
 module _ (cpi : ℕ) (batch : List ℕ) (d w : ℕ) (line : List ℕ) (t : TermShown cpi batch d w line) where
-  pub column-read : InBatch cpi d batch → (b : ℕ) → mapped 4096 cpi (w % 2 ^ 12) d ≡ At b → stands_for 10 (take 7 (drop 2 line)) ≡ b
+  pub column-read : InBatch cpi d batch → (b : ℕ) → mapped 4096 cpi (w % 2 ^ 12) d ≡ Ok b → stands_for 10 (take 7 (drop 2 line)) ≡ b
   column-read i b e =
       ap (stands_for 10) (t.column b e)
       ∙ read_right 7 b

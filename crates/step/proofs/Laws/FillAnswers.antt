@@ -1,6 +1,6 @@
 -- The filler's yes is what demand 3 supposes of a batch, and of every such batch the filler answers yes.
 -- Assumes nothing.
-use Rattle.std.specs.Prelude.{◌≡◌, Bool, ◌&&◌, List, ℕ, ◌+◌, ◌*◌, ◌/◌, ◌%◌, ◌^◌, ◌≤◌, ◌<◌, leb, length, get_or}
+use Rattle.std.specs.Prelude.{◌≡◌, Bool, ◌&&◌, List, ℕ, ◌+◌, ◌*◌, ◌/◌, ◌%◌, ◌^◌, ◌≤◌, ◌<◌, leb, length, get_or, Err, Ok}
 use Rattle.std.proofs.Math.Path.{refl, sym, ap}
 use Rattle.std.proofs.Common.{◌∙◌, mod-lt, div-lt_iff_lt-mul, arith}
 use Rattle.std.proofs.Math.Bool.{true, false, not, true≢false}
@@ -11,10 +11,8 @@ use Rattle.base.specs.Laws.Tests.{passed, both}
 use Rattle.base.specs.Laws.First.{first_passes, first-least}
 use Rattle.field.specs.Gf.{one, same, is_bit}
 use Rattle.field.specs.Gf.Tests.{same_true, same_self}
-use Rattle.layout.specs.declared.Asked.{Asked}
-use Rattle.layout.specs.declared.Asked.TheVariants.{Yes, No}
 use Rattle.layout.specs.Batch.{allowed, scratch_fits, batch_asked}
-use Rattle.layout.specs.Questions.{after}
+use Rattle.layout.specs.Questions.{after, Asked}
 use Rattle.layout.specs.Laws.Mapping.{witness-column}
 use Rattle.layout.specs.Laws.Questions.{answered, after-yes, both_yes, batch-yes, if_yes_lem, yes-batch}
 use Rattle.layout.specs.Laws.Sizes.{allowed-range}
@@ -28,7 +26,7 @@ use Rattle.step.specs.Fill.{faulty, first_faulty, fill_asked, called, Passed}
 use Rattle.step.proofs.Laws.Proved.{demand3}
 
 module _ (cpi : ℕ) (batch : List ℕ) where
-  pub all-passed : fill_asked cpi batch ≡ Yes → Passed cpi batch
+  pub all-passed : fill_asked cpi batch ≡ Ok tt → Passed cpi batch
   unfolding fill_asked
   all-passed e =
       let first = both_yes (batch_asked cpi (length batch)) _ e in let batch-is = batch-yes cpi (length batch) first.0 in
@@ -36,12 +34,12 @@ module _ (cpi : ℕ) (batch : List ℕ) where
       let fourth = answered (same (element_at batch (2048 * cpi)) one) _ _ third.1 in
       record { size = batch-is.0; words = batch-is.1; bits = leb-true _ _ third.0; one-is = same_true _ _ fourth.0 }
 
-  pub passed-all : Passed cpi batch → fill_asked cpi batch ≡ Yes
+  pub passed-all : Passed cpi batch → fill_asked cpi batch ≡ Ok tt
   unfolding fill_asked
   passed-all p =
       sym
       (passed _ _ _ (ap (λ x. same x one) p.one-is ∙ same_self one) ∙ passed _ _ _ (le-leb _ _ p.bits)
-      ∙ if_yes_lem No _ (yes-batch cpi (length batch) p.size p.words))
+      ∙ if_yes_lem Err _ (yes-batch cpi (length batch) p.size p.words))
 
   -- of a slice as it is lent, whose words are words
   pub premises : Passed cpi batch → ((i : ℕ) → get_or batch i 0 < 2 ^ 64) → Premises cpi batch
@@ -86,12 +84,12 @@ module _ (cpi : ℕ) (batch : List ℕ) where
           absurd (no-fault (first_faulty cpi batch) l (first_passes (faulty cpi batch) (2048 * cpi) 0 (omega arith)))
 
   -- so of every batch that demand 3 speaks of it makes the filling
-  pub fills : allowed cpi ≡ true → Premises cpi batch → called cpi batch ≡ record { answer = Yes; batch = filled cpi batch }
+  pub fills : allowed cpi ≡ true → Premises cpi batch → called cpi batch ≡ record { answer = Ok tt; batch = filled cpi batch }
   unfolding called
   fills size p = ap (λ (a : Asked). after a (filled cpi batch) batch) (passed-all (passes size p))
 
   -- Demand 3 of the filler as it is called, of a slice as it is lent: where it answers yes, it leaves the batch of which all is said
-  pub demand3-of-fill : (u scratch : List ℕ) → called cpi batch ≡ record { answer = Yes; batch = u } → ((i : ℕ) → get_or batch i 0 < 2 ^ 64)
+  pub demand3-of-fill : (u scratch : List ℕ) → called cpi batch ≡ record { answer = Ok tt; batch = u } → ((i : ℕ) → get_or batch i 0 < 2 ^ 64)
       → scratch_fits (length scratch) ≡ true → (u ≡ filled cpi batch) × Demand3 circuit_words Step cpi batch scratch
   unfolding called
   demand3-of-fill u scratch e fit room =

@@ -1,6 +1,6 @@
 -- The filler's refusals 11 and 12, of given batches of every size: the number, the place, and the batch as it came.
 -- Assumes nothing.
-use Rattle.std.specs.Prelude.{◌≡◌, Bool, true, false, not, ◌&&◌, List, ℕ, ◌+◌, ◌*◌, ◌<◌, eqb, leb, replicate}
+use Rattle.std.specs.Prelude.{◌≡◌, Bool, true, false, not, ◌&&◌, List, ℕ, ◌+◌, ◌*◌, ◌<◌, eqb, leb, replicate, Err}
 use Rattle.std.proofs.Math.Path.{sym, ap}
 use Rattle.std.proofs.Common.{ap₂, ◌∙◌, arith}
 use Rattle.std.proofs.lemmas.Bool.{false≢true}
@@ -15,10 +15,8 @@ use Rattle.field.specs.Gf.{of_words, low, one, same, is_bit, of_bit}
 use Rattle.field.specs.Gf.Tests.{same_true, is_bit-bit}
 use Rattle.field.specs.Gf.Bits.{low_bit}
 use Rattle.field.specs.Gf.Laws.{words-zero}
-use Rattle.layout.specs.declared.Asked.{Asked}
-use Rattle.layout.specs.declared.Asked.TheVariants.{No}
 use Rattle.layout.specs.Batch.{allowed, batch_words}
-use Rattle.layout.specs.Questions.{no, after}
+use Rattle.layout.specs.Questions.{no, after, Asked}
 use Rattle.layout.specs.Laws.Sizes.{allowed-range}
 use Rattle.layout.specs.Laws.Questions.{if_yes_lem, yes-batch}
 use Rattle.verdict.specs.Row.{element_at}
@@ -28,10 +26,11 @@ use Rattle.step.specs.Filling.{filled}
 use Rattle.step.specs.Fill.{faulty, first_faulty, fill_asked, called}
 use Rattle.step.proofs.Laws.Chosen.{batch_of, batch-length, is-bit}
 use Rattle.step.proofs.Laws.Clauses.{replaced, replaced-length, replaced-here, replaced-other}
+use Rattle.layout.specs.declared.questions.Question.TheVariants.{GivenBits, OneColumn}
 
 -- a call that is refused leaves the batch
 abbrev pub RefusedWith : ℕ → ℕ → ℕ → List ℕ → Type 0
-RefusedWith k place cpi batch = called cpi batch ≡ record { answer = No (no k place); batch = batch }
+RefusedWith k place cpi batch = called cpi batch ≡ record { answer = Err (no k place); batch = batch }
 
 pub record Refuses (cpi : ℕ) : Type 0 where
   -- a given column c of cycle d that is no bit, whatever bits stand elsewhere: 11, and the place is its batch column
@@ -67,12 +66,12 @@ module _ (cpi : ℕ) (size : allowed cpi ≡ true) where
     first-is : first_faulty cpi w ≡ c * cpi + d
     first-is = first-at (faulty cpi w) (2048 * cpi) (c * cpi + d) inside here before
 
-    asked-11 : fill_asked cpi w ≡ No (no 11 (c * cpi + d))
+    asked-11 : fill_asked cpi w ≡ Err (no GivenBits (c * cpi + d))
     unfolding fill_asked
     asked-11 =
         sym
-        (ap (λ (p : ℕ). No (no 11 p)) (sym first-is) ∙ refused _ _ _ (ap (leb (2048 * cpi)) first-is ∙ lt-leb _ _ inside)
-        ∙ if_yes_lem No _ (yes-batch cpi _ size (replaced-length (batch_of cpi b) (c * cpi + d) l h ∙ batch-length cpi some b)))
+        (ap (λ (p : ℕ). Err (no GivenBits p)) (sym first-is) ∙ refused _ _ _ (ap (leb (2048 * cpi)) first-is ∙ lt-leb _ _ inside)
+        ∙ if_yes_lem Err _ (yes-batch cpi _ size (replaced-length (batch_of cpi b) (c * cpi + d) l h ∙ batch-length cpi some b)))
 
     no-bit-refused : RefusedWith 11 (c * cpi + d) cpi w
     unfolding called
@@ -95,12 +94,12 @@ module _ (cpi : ℕ) (size : allowed cpi ≡ true) where
       no_true _ (λ t. false≢true
       (sym (low_bit false) ∙ ap (λ (y : Gf128). eqb (low y) 1) (sym (element-zero (2048 * cpi)) ∙ same_true _ _ t) ∙ low_bit true))
 
-  asked-12 : fill_asked cpi none ≡ No (no 12 0)
+  asked-12 : fill_asked cpi none ≡ Err (no OneColumn 0)
   unfolding fill_asked
   asked-12 =
       sym
       (refused _ _ _ not-one ∙ passed _ _ _ (le-leb (2048 * cpi) (first_faulty cpi none) (omega (arith, no-faults)))
-      ∙ if_yes_lem No _ (yes-batch cpi _ size (length-replicate {A = ℕ} (batch_words cpi) 0)))
+      ∙ if_yes_lem Err _ (yes-batch cpi _ size (length-replicate {A = ℕ} (batch_words cpi) 0)))
 
   pub refuses : Refuses cpi
   unfolding called

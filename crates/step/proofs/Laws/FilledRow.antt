@@ -1,7 +1,7 @@
 -- A row of cpi 1 that is given by the columns that hold 1, filled and checked as called: accepted where the ten conditions hold, or the
 -- first row that fails, where it is RAM address, the adder or the public output. P6 to P9 of the bench sheet are cases of this.
 -- Assumes nothing.
-use Rattle.std.specs.Prelude.{◌≡◌, Bool, ◌&&◌, List, [], ◌∷◌, ◌++◌, length, drop}
+use Rattle.std.specs.Prelude.{◌≡◌, Bool, ◌&&◌, List, [], ◌∷◌, ◌++◌, length, drop, Ok}
 use Rattle.std.proofs.Math.Path.{refl, sym, ap, ap₂}
 use Rattle.std.proofs.Common.{subst, ◌∙◌, arith, eq-eqb}
 use Rattle.std.proofs.Math.Bool.{true, false, not, and-false}
@@ -16,7 +16,6 @@ use Rattle.base.specs.Laws.Cases.{no_true, not-self}
 use Rattle.field.specs.declared.Gf128.{Gf128}
 use Rattle.field.specs.Gf.{of_words}
 use Rattle.field.specs.Gf.Laws.{words-injective}
-use Rattle.layout.specs.declared.Asked.TheVariants.{Yes}
 use Rattle.layout.specs.Columns.{ONE-COL, RD, T1, T2, ALU, SUB, WE, IS-LOAD, IS-STORE, IS-ARITH, LD-HALF, LD-WORD, RAM-ADDR, FETCH-OP, WNL, ZE16, ZE8}
 use Rattle.layout.specs.Batch.{allowed, scratch_fits}
 use Rattle.circuit.specs.declared.Relation.TheVariants.{Bin, Fld}
@@ -29,7 +28,6 @@ use Rattle.strict.specs.declared.Known.TheVariants.{House}
 use Rattle.verdict.specs.declared.Counts.{Counts}
 use Rattle.verdict.specs.declared.Verdict.{Verdict}
 use Rattle.verdict.specs.declared.Verdict.TheVariants.{Accepted, Failed}
-use Rattle.verdict.specs.declared.CheckAnswer.TheVariants.{Judged}
 use Rattle.verdict.specs.Row.{cycle_of, holds, bits_of}
 use Rattle.verdict.specs.OverBits.{plain}
 use Rattle.verdict.specs.Named.{named}
@@ -63,9 +61,9 @@ use Rattle.step.proofs.Laws.CycleOrder.{at, rows_in, before_address, bins, befor
 -- the filler as called says yes and leaves the row filled, on which the check as called, over the house listing and with any scratch that
 -- fits, gives a verdict, and zeros in the scratch
 pub record Gives (row : List ℕ) (v : Verdict) : Type 0 where
-  pub fill : called 1 row ≡ record { answer = Yes; batch = filled 1 row }
+  pub fill : called 1 row ≡ record { answer = Ok tt; batch = filled 1 row }
   pub check : (scratch : List ℕ) → scratch_fits (length scratch) ≡ true
-      → checked 1 circuit_words (filled 1 row) scratch ≡ record { answer = Judged v; scratch = replicate (length scratch) 0 }
+      → checked 1 circuit_words (filled 1 row) scratch ≡ record { answer = Ok v; scratch = replicate (length scratch) 0 }
 
 -- ---- a row that holds 1 in the columns cs and n in the public element, filled
 
@@ -81,7 +79,7 @@ module _ (cs : List ℕ) (n : ℕ) (row : List ℕ) (h : Holding cs n row) (t : 
         fill = fills 1 row refl p;
         check = λ scratch room.
             checked-is (filled 1 row) scratch (filling-length 1 (filler_bits 1 row) row ∙ h.words) room
-            ∙ ap (λ w. record { answer = Judged w; scratch = replicate (length scratch) 0 }) e;
+            ∙ ap (λ w. record { answer = Ok w; scratch = replicate (length scratch) 0 }) e;
       }
 
   abbrev view : ℕ → ℕ → Gf128

@@ -1,14 +1,13 @@
 -- Listings that the theorem speaks of: the house rows with further bin rows that read given columns and the one column alone. The house
 -- listing is the case of none, and the strict one has eight. What an accepted batch says of their rows.
 -- Assumes nothing.
-use Rattle.std.specs.Prelude.{◌≡◌, refl, ◌↔◌, Bool, true, ◌&&◌, List, [], ◌∷◌, ◌++◌, ℕ, length}
+use Rattle.std.specs.Prelude.{◌≡◌, refl, ◌↔◌, Bool, true, ◌&&◌, List, [], ◌∷◌, ◌++◌, ℕ, length, Ok}
 use Rattle.std.proofs.Common.{sym, ap, subst, ◌∙◌}
 use Rattle.std.proofs.lemmas.Bool.{false≢true}
 use Rattle.base.specs.Lists.{joined, All}
 use Rattle.base.specs.Laws.Tests.{both}
 use Rattle.base.specs.Laws.Lists.{all_append, all_left, all_right}
 use Rattle.field.specs.declared.Gf128.{Gf128}
-use Rattle.layout.specs.declared.Asked.TheVariants.{Yes}
 use Rattle.layout.specs.Batch.{allowed, batch_words, scratch_fits}
 use Rattle.circuit.specs.declared.Relation.TheVariants.{Bin, Fld}
 use Rattle.circuit.specs.Rows.{Sides, Row, numbered}
@@ -23,7 +22,6 @@ use Rattle.strict.specs.Known.{listing_of, further_rows}
 use Rattle.strict.proofs.Laws.Known.{in_order, rows_are}
 use Rattle.verdict.specs.declared.Verdict.{Verdict}
 use Rattle.verdict.specs.declared.Verdict.TheVariants.{Accepted, Failed}
-use Rattle.verdict.specs.declared.CheckAnswer.TheVariants.{Judged}
 use Rattle.verdict.specs.Row.{holds}
 use Rattle.verdict.specs.OverBits.{plain}
 use Rattle.verdict.specs.Named.{named}
@@ -49,9 +47,9 @@ judged-accepts cpi listing u = (λ e. go (judged cpi listing u) refl e, λ h. ap
     go (Failed rel row n) q e = absurd (false≢true e)
 
 -- every question is answered with yes
-pub checked-answer : (cpi : ℕ) (listing u scratch : List ℕ) → allowed cpi ≡ true → validated listing ≡ Yes → scratch_fits (length scratch)
+pub checked-answer : (cpi : ℕ) (listing u scratch : List ℕ) → allowed cpi ≡ true → validated listing ≡ Ok tt → scratch_fits (length scratch)
     ≡ true → length u ≡ batch_words cpi
-    → (checked cpi listing u scratch).answer ≡ Judged (judged cpi listing u)
+    → (checked cpi listing u scratch).answer ≡ Ok (judged cpi listing u)
 checked-answer cpi listing u scratch size valid room words = ap (λ c. c.answer)
     (verdicts.answered-yes cpi listing u scratch size valid room words)
 
@@ -70,7 +68,7 @@ same-further y z h (s ∷ ss) e a =
 
 -- a listing of the house rows and further bin rows
 pub record Listed (listing : List ℕ) (further : List Sides) : Type 0 where
-  pub in_order : validated listing ≡ Yes
+  pub in_order : validated listing ≡ Ok tt
   pub rows_are : rows_of listing ≡ rows_with further
   pub over-bits : all_over_bits further ≡ true
   pub read-given : all_read_given further ≡ true

@@ -1,6 +1,6 @@
 -- Demand 3 proved: of any listing of the house rows and further bin rows, and so of the house listing and of the strict one.
 -- Assumes nothing.
-use Rattle.std.specs.Prelude.{◌≡◌, ◌↔◌, Bool, not, ℕ, ◌+◌, ◌*◌, ◌≤◌, ◌<◌, length}
+use Rattle.std.specs.Prelude.{◌≡◌, ◌↔◌, Bool, not, ℕ, ◌+◌, ◌*◌, ◌≤◌, ◌<◌, length, Ok}
 use Rattle.std.proofs.Math.Path.{refl, ap}
 use Rattle.std.proofs.Common.{sym, ◌∙◌, arith}
 use Rattle.std.proofs.Math.Bool.{true, false, false≢true}
@@ -22,8 +22,6 @@ use Rattle.strict.specs.declared.Known.{Known}
 use Rattle.strict.specs.declared.Known.TheVariants.{House, Strict}
 use Rattle.strict.specs.Rows.{strict_words}
 use Rattle.strict.specs.Known.{listing_of, further_rows}
-use Rattle.verdict.specs.declared.CheckAnswer.{CheckAnswer}
-use Rattle.verdict.specs.declared.CheckAnswer.TheVariants.{Judged}
 use Rattle.verdict.specs.Row.{cycle_of, holds, bits_of}
 use Rattle.verdict.specs.Check.{judged, checked}
 use Rattle.step.specs.Step.{Step, opcode, funct3}
@@ -41,6 +39,8 @@ use Rattle.step.proofs.Laws.Batch.{RowsHold, one_bit, same-given, of-bits, same-
 use Rattle.step.proofs.Laws.Listings.{judged-accepts, checked-answer, same-further, Listed, cycle-rows, listed}
 use Rattle.step.proofs.Laws.Strict.{meaning as flags-mean}
 use Rattle.field.specs.Gf as gf
+use Rattle.layout.specs.Questions.{Answer}
+use Rattle.verdict.specs.declared.Verdict.{Verdict}
 
 module _ (listing : List ℕ) (further : List Sides) (l : Listed listing further)
     (Conditions : (ℕ → Bool) → Gf128 → Type 0)
@@ -49,13 +49,13 @@ module _ (listing : List ℕ) (further : List Sides) (l : Listed listing further
   some : 0 < cpi
   some = (allowed-range cpi size).0
 
-  abbrev verdict : List ℕ → CheckAnswer
+  abbrev verdict : List ℕ → Answer Verdict
   verdict u = (checked cpi listing u scratch).answer
 
   abbrev W : List ℕ
   W = filled cpi w
 
-  is-judged : (v : ℕ → Bool) → verdict (filling cpi v w) ≡ Judged (judged cpi listing (filling cpi v w))
+  is-judged : (v : ℕ → Bool) → verdict (filling cpi v w) ≡ Ok (judged cpi listing (filling cpi v w))
   is-judged v = checked-answer cpi listing (filling cpi v w) scratch size l.in_order room (filling-length cpi v w ∙ p.words)
 
   -- a filling is accepted exactly when every cycle's rows hold

@@ -1,7 +1,7 @@
 -- The verdict of the strict listing on the filler's batch where flags are wrong: it names the first cycle whose flags break one of rows 483
 -- to 490, and there the first of these rows; 491 bin rows are counted for each cycle before.
 -- Assumes nothing.
-use Rattle.std.specs.Prelude.{◌≡◌, Bool, false, cond, ℕ, suc, ◌+◌, ◌*◌, ◌<◌}
+use Rattle.std.specs.Prelude.{◌≡◌, Bool, false, cond, ℕ, suc, ◌+◌, ◌*◌, ◌<◌, Ok}
 use Rattle.std.proofs.Math.Path.{refl, sym, ap, ap₂}
 use Rattle.std.proofs.Common.{◌∙◌, true≢false, arith, eq-eqb, ne_eqb}
 use Rattle.std.proofs.Math.Bool.{true}
@@ -24,7 +24,6 @@ use Rattle.strict.specs.Rows.{flag_rows, strict_rows, strict_words}
 use Rattle.strict.proofs.Laws.Strict.{in_order, words-read}
 use Rattle.verdict.specs.declared.Counts.{Counts}
 use Rattle.verdict.specs.declared.Verdict.TheVariants.{Failed}
-use Rattle.verdict.specs.declared.CheckAnswer.TheVariants.{Judged}
 use Rattle.verdict.specs.Row.{cycle_of, holds, bits_of}
 use Rattle.verdict.specs.OverBits.{sum_bits}
 use Rattle.verdict.specs.Counts.{counts, none, counted}
@@ -182,14 +181,14 @@ module _ (cpi : ℕ) (size : allowed cpi ≡ true) (w : List ℕ) (p : Premises 
     pub strict-names : (scratch : List ℕ) → scratch_fits (length scratch) ≡ true → first_broken (bits_of cpi w e) flag_rows < 8
         → checked cpi strict_words (filled cpi w) scratch
         ≡ record {
-          answer = Judged (Failed Bin (512 * e + 483 + first_broken (bits_of cpi w e) flag_rows)
+          answer = Ok (Failed Bin (512 * e + 483 + first_broken (bits_of cpi w e) flag_rows)
               (counts (491 * e + 484 + first_broken (bits_of cpi w e) flag_rows) 0));
           scratch = replicate (length scratch) 0;
         }
     unfolding filled
     strict-names scratch room l =
         answered-yes cpi strict_words W scratch size in_order room (filling-length cpi (filler_bits cpi w) w ∙ p.words)
-        ∙ ap (λ v. record { answer = Judged v; scratch = replicate (length scratch) 0 }) (named-row l)
+        ∙ ap (λ v. record { answer = Ok v; scratch = replicate (length scratch) 0 }) (named-row l)
 
 -- ---- so of flags in one cycle, with 0 elsewhere
 
@@ -197,7 +196,7 @@ module _ (cpi : ℕ) (size : allowed cpi ≡ true) (w : List ℕ) (p : Premises 
 abbrev pub Names : List ℕ → ℕ → ℕ → Bool → Bool → Bool → Bool → Bool → ℕ → ℕ → Type 0
 Names scratch cpi e load store byte half word row bin =
     checked cpi strict_words (filled cpi (flagged cpi e load store byte half word)) scratch
-    ≡ record { answer = Judged (Failed Bin row (counts bin 0)); scratch = replicate (length scratch) 0 }
+    ≡ record { answer = Ok (Failed Bin row (counts bin 0)); scratch = replicate (length scratch) 0 }
 
 module _ (cpi : ℕ) (size : allowed cpi ≡ true) (scratch : List ℕ) (room : scratch_fits (length scratch) ≡ true) (e : ℕ) (inside : e < cpi)
     (l s y h w : Bool) where
@@ -211,7 +210,7 @@ module _ (cpi : ℕ) (size : allowed cpi ≡ true) (scratch : List ℕ) (room : 
       (there cpi size scratch room e inside l s y h w House e inside true (eq-eqb e e refl) (ten-met l s y h w)) scratch room
       (omega (arith, is-j))
       ∙ ap (λ (i : ℕ). record {
-        answer = Judged (Failed Bin (512 * e + 483 + i) (counts (491 * e + 484 + i) 0));
+        answer = Ok (Failed Bin (512 * e + 483 + i) (counts (491 * e + 484 + i) 0));
         scratch = replicate (length scratch) 0;
       }) is-j
 

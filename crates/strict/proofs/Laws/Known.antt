@@ -1,9 +1,8 @@
 -- A listing that is known by name is in order, and its rows are the house rows with those that it adds, so many of each relation.
 -- Assumes nothing.
-use Rattle.std.specs.Prelude.{◌≡◌, refl, List, ◌++◌, length}
+use Rattle.std.specs.Prelude.{◌≡◌, refl, List, ◌++◌, length, Ok}
 use Rattle.std.proofs.Common.{sym, ap, ◌∙◌, append-nil}
 use Rattle.base.specs.Lists.{joined, from, from_each}
-use Rattle.layout.specs.declared.Asked.TheVariants.{Yes}
 use Rattle.circuit.specs.declared.Relation.{Relation}
 use Rattle.circuit.specs.declared.Relation.TheVariants.{Bin, Fld}
 use Rattle.circuit.specs.Rows.{Sides, Row, numbered, of_relation}
@@ -17,7 +16,7 @@ use Rattle.strict.specs.Known.{listing_of, further_rows, rows_each}
 use Rattle.circuit.specs.Laws.House as house
 use Rattle.strict.proofs.Laws.Strict as strict
 
-pub in_order : (k : Known) → validated (listing_of k) ≡ Yes
+pub in_order : (k : Known) → validated (listing_of k) ≡ Ok tt
 in_order House = house.in_order
 in_order Strict = strict.in_order
 

@@ -1,8 +1,7 @@
 -- The strict listing is in order, and what it holds: by computation, once.
 -- Assumes nothing.
-use Rattle.std.specs.Prelude.{◌≡◌, refl}
+use Rattle.std.specs.Prelude.{◌≡◌, refl, Ok}
 use Rattle.base.specs.Lists.{joined, from, from_each}
-use Rattle.layout.specs.declared.Asked.TheVariants.{Yes}
 use Rattle.circuit.specs.Words.{clean_of, word_of}
 use Rattle.circuit.specs.Rows.{numbered, side_words, encode}
 use Rattle.circuit.specs.Circuit.{bin_families, fld_families, circuit_rows, circuit_words}
@@ -18,7 +17,7 @@ unfolding parse word_of strict_words strict_rows flag_rows bin_families fld_fami
 words-read = refl
 
 -- questions 6 to 10 are answered with yes
-pub in_order : validated strict_words ≡ Yes
+pub in_order : validated strict_words ≡ Ok tt
 unfolding validated valid_from after_word after_mark after_term clean_of
     strict_words strict_rows flag_rows bin_families fld_families from from_each joined numbered side_words encode
 in_order = refl

@@ -1,7 +1,7 @@
 -- The check over a listing that is named answers as the check does that is lent that listing and scratch that fits; and what it accepts, it
 -- accepts with all rows of the listing counted for each cycle, bin and fld apart.
 -- Assumes nothing.
-use Rattle.std.specs.Prelude.{◌≡◌, true, List, ℕ, ◌*◌, length}
+use Rattle.std.specs.Prelude.{◌≡◌, true, List, ℕ, ◌*◌, length, Err, Ok}
 use Rattle.std.proofs.Common.{sym, ap, ◌∙◌, arith}
 use Rattle.layout.specs.Batch.{batch_asked, scratch_fits}
 use Rattle.layout.specs.Questions.{if_yes}
@@ -11,7 +11,6 @@ use Rattle.strict.specs.Known.{listing_of}
 use Rattle.strict.proofs.Laws.Known.{in_order}
 use Rattle.verdict.specs.declared.Counts.{Counts}
 use Rattle.verdict.specs.declared.Verdict.TheVariants.{Accepted}
-use Rattle.verdict.specs.declared.CheckAnswer.TheVariants.{Judged, Refused}
 use Rattle.verdict.specs.Counts.{rows, counts_of, every_row_of}
 use Rattle.verdict.specs.Check.{judged, checked, known_checked}
 use Rattle.verdict.specs.Laws.Known.{every-known}
@@ -24,7 +23,7 @@ unfolding known_checked
 known-agrees k cpi batch scratch s =
     sym
     (answer-fits cpi (listing_of k) batch scratch s
-    ∙ ap (λ q. if_yes Refused (batch_asked cpi (length batch)) (if_yes Refused q (Judged (judged cpi (listing_of k) batch)))) (in_order k))
+    ∙ ap (λ q. if_yes Err (batch_asked cpi (length batch)) (if_yes Err q (Ok (judged cpi (listing_of k) batch)))) (in_order k))
 
 -- whatever stands in the batch
 pub accepted-counts : (k : Known) (cpi : ℕ) (batch : List ℕ) (n : Counts) → judged cpi (listing_of k) batch ≡ Accepted n

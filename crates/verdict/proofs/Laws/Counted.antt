@@ -1,16 +1,14 @@
 -- Bin and fld are counted apart in every verdict, and their sum is the count of all that was tested; so of every call.
 -- Assumes nothing.
-use Rattle.std.specs.Prelude.{◌≡◌, Bool, true, false, cond, ℕ, suc, ◌+◌, ◌*◌, length}
+use Rattle.std.specs.Prelude.{◌≡◌, Bool, true, false, cond, ℕ, suc, ◌+◌, ◌*◌, length, Err, Ok}
 use Rattle.std.proofs.Math.Path.{refl, sym}
 use Rattle.std.proofs.Common.{ap, ap₂, subst, ◌∙◌, add-zero, arith}
 use mathlib.Core.List.{List, [], ◌∷◌, ◌++◌}
 use Rattle.std.proofs.Math.Nat.{zero-add}
 use Rattle.base.specs.Lists.{All}
 use Rattle.base.specs.Laws.Tests.{passed, refused}
-use Rattle.layout.specs.declared.Asked.{Asked}
-use Rattle.layout.specs.declared.Asked.TheVariants.{Yes, No}
 use Rattle.layout.specs.Batch.{batch_asked}
-use Rattle.layout.specs.Questions.{if_yes}
+use Rattle.layout.specs.Questions.{if_yes, Asked}
 use Rattle.circuit.specs.declared.Relation.{Relation}
 use Rattle.circuit.specs.declared.Relation.TheVariants.{Bin, Fld}
 use Rattle.circuit.specs.Batched.{batch_row}
@@ -21,7 +19,6 @@ use Rattle.strict.specs.Known.{listing_of}
 use Rattle.verdict.specs.declared.Counts.{Counts}
 use Rattle.verdict.specs.declared.Verdict.{Verdict}
 use Rattle.verdict.specs.declared.Verdict.TheVariants.{Accepted, Failed}
-use Rattle.verdict.specs.declared.CheckAnswer.TheVariants.{Judged, Refused}
 use Rattle.verdict.specs.Row.{cycle_of}
 use Rattle.verdict.specs.Counts.{counts, none, counted, rows, counts_of}
 use Rattle.verdict.specs.Check.{Constraint, constraints, met, failed_at, run, judged, asked, checked, known_checked}
@@ -194,11 +191,11 @@ module _ (cpi : ℕ) (listing batch : List ℕ) where
 -- ---- so of every call that answers with a verdict
 
 -- a verdict behind questions is the verdict
-told-verdict : (q : Asked) (w v : Verdict) → if_yes Refused q (Judged w) ≡ Judged v → w ≡ v
-told-verdict Yes w v e = cc
-told-verdict (No r) w v e = let z : ◌≡◌ {A = ℕ} 0 1 = cc in absurd (omega arith)
+told-verdict : (q : Asked) (w v : Verdict) → if_yes Err q (Ok w) ≡ Ok v → w ≡ v
+told-verdict (Ok _) w v e = cc
+told-verdict (Err r) w v e = let z : ◌≡◌ {A = ℕ} 0 1 = cc in absurd (omega arith)
 
-pub call-counted : (cpi : ℕ) (listing batch scratch : List ℕ) (v : Verdict) → (checked cpi listing batch scratch).answer ≡ Judged v
+pub call-counted : (cpi : ℕ) (listing batch scratch : List ℕ) (v : Verdict) → (checked cpi listing batch scratch).answer ≡ Ok v
     → CountedApart cpi listing batch v
 unfolding checked
 call-counted cpi listing batch scratch v e =
@@ -206,7 +203,7 @@ call-counted cpi listing batch scratch v e =
     subst (CountedApart cpi listing batch) (told-verdict q (judged cpi listing batch) v (sym (told q (judged cpi listing batch) scratch) ∙ e))
     (counted-apart cpi listing batch)
 
-pub known-counted : (k : Known) (cpi : ℕ) (batch : List ℕ) (v : Verdict) → known_checked k cpi batch ≡ Judged v
+pub known-counted : (k : Known) (cpi : ℕ) (batch : List ℕ) (v : Verdict) → known_checked k cpi batch ≡ Ok v
     → CountedApart cpi (listing_of k) batch v
 unfolding known_checked
 known-counted k cpi batch v e =

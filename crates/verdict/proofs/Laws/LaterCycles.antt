@@ -2,7 +2,7 @@
 -- row of that cycle, 512 · d or 32 · d further on. It counts the rows before: where it fails in bin, 483 of bin for each cycle before and
 -- none of fld; where it fails in fld, 483 of bin for every cycle of the batch, and 31 of fld for each before.
 -- Assumes nothing.
-use Rattle.std.specs.Prelude.{◌≡◌, refl, Bool, true, false, List, map, ℕ, ◌+◌, ◌*◌, ◌<◌, eqb, length, set, replicate}
+use Rattle.std.specs.Prelude.{◌≡◌, refl, Bool, true, false, List, map, ℕ, ◌+◌, ◌*◌, ◌<◌, eqb, length, set, replicate, Ok}
 use Rattle.std.proofs.Common.{sym, ap₂, subst, ◌∙◌, arith, eqb-true, eq-eqb, ne_eqb, length-set}
 use Rattle.std.proofs.Math.Path.{ap}
 use Rattle.std.proofs.Math.Decide.{dec_lt}
@@ -25,7 +25,6 @@ use Rattle.strict.specs.Known.{rows_each}
 use Rattle.verdict.specs.declared.Counts.{Counts}
 use Rattle.verdict.specs.declared.Verdict.{Verdict}
 use Rattle.verdict.specs.declared.Verdict.TheVariants.{Accepted, Failed}
-use Rattle.verdict.specs.declared.CheckAnswer.TheVariants.{Judged}
 use Rattle.verdict.specs.Row.{cycle_of}
 use Rattle.verdict.specs.Counts.{counts, none}
 use Rattle.verdict.specs.Check.{in_cycle, in_cycles, constraints, met, run, judged, checked}
@@ -164,34 +163,34 @@ fld-judged cpi d h =
 
 module _ (cpi d : ℕ) (ok : allowed cpi ≡ true) (h : d < cpi) (scratch : List ℕ) (room : scratch_fits (length scratch) ≡ true) where
   as_called : (c : ℕ) {v : Verdict} → judged cpi circuit_words (alone cpi c d) ≡ v
-      → checked cpi circuit_words (alone cpi c d) scratch ≡ record { answer = Judged v; scratch = replicate (length scratch) 0 }
+      → checked cpi circuit_words (alone cpi c d) scratch ≡ record { answer = Ok v; scratch = replicate (length scratch) 0 }
   as_called c e =
       answered-yes cpi circuit_words (alone cpi c d) scratch ok in_order room
       (length-set {A = ℕ} (replicate (batch_words cpi) 0) (2 * (c * cpi + d)) 1 ∙ length-replicate {A = ℕ} (batch_words cpi) 0)
-      ∙ ap (λ v. record { answer = Judged v; scratch = replicate (length scratch) 0 }) e
+      ∙ ap (λ v. record { answer = Ok v; scratch = replicate (length scratch) 0 }) e
 
   pub bin-fails : checked cpi circuit_words (alone cpi 928 d) scratch
-      ≡ record { answer = Judged (Failed Bin (512 * d + 295) (counts (483 * d + 296) 0)); scratch = replicate (length scratch) 0 }
+      ≡ record { answer = Ok (Failed Bin (512 * d + 295) (counts (483 * d + 296) 0)); scratch = replicate (length scratch) 0 }
   bin-fails = as_called 928 (bin-judged cpi d h)
 
   pub fld-fails : checked cpi circuit_words (alone cpi 448 d) scratch
-      ≡ record { answer = Judged (Failed Fld (32 * d + 2) (counts (483 * cpi) (31 * d + 3))); scratch = replicate (length scratch) 0 }
+      ≡ record { answer = Ok (Failed Fld (32 * d + 2) (counts (483 * cpi) (31 * d + 3))); scratch = replicate (length scratch) 0 }
   fld-fails = as_called 448 (fld-judged cpi d h)
 
 -- with all numbers written out: the last cycle of two, of four and of 256
 pub record Last (scratch : List ℕ) : Type 0 where
   pub bin-2 : checked 2 circuit_words (set (replicate 16384 0) 3714 1) scratch
-      ≡ record { answer = Judged (Failed Bin 807 (counts 779 0)); scratch = replicate (length scratch) 0 }
+      ≡ record { answer = Ok (Failed Bin 807 (counts 779 0)); scratch = replicate (length scratch) 0 }
   pub fld-2 : checked 2 circuit_words (set (replicate 16384 0) 1794 1) scratch
-      ≡ record { answer = Judged (Failed Fld 34 (counts 966 34)); scratch = replicate (length scratch) 0 }
+      ≡ record { answer = Ok (Failed Fld 34 (counts 966 34)); scratch = replicate (length scratch) 0 }
   pub bin-4 : checked 4 circuit_words (set (replicate 32768 0) 7430 1) scratch
-      ≡ record { answer = Judged (Failed Bin 1831 (counts 1745 0)); scratch = replicate (length scratch) 0 }
+      ≡ record { answer = Ok (Failed Bin 1831 (counts 1745 0)); scratch = replicate (length scratch) 0 }
   pub fld-4 : checked 4 circuit_words (set (replicate 32768 0) 3590 1) scratch
-      ≡ record { answer = Judged (Failed Fld 98 (counts 1932 96)); scratch = replicate (length scratch) 0 }
+      ≡ record { answer = Ok (Failed Fld 98 (counts 1932 96)); scratch = replicate (length scratch) 0 }
   pub bin-256 : checked 256 circuit_words (set (replicate 2097152 0) 475646 1) scratch
-      ≡ record { answer = Judged (Failed Bin 130855 (counts 123461 0)); scratch = replicate (length scratch) 0 }
+      ≡ record { answer = Ok (Failed Bin 130855 (counts 123461 0)); scratch = replicate (length scratch) 0 }
   pub fld-256 : checked 256 circuit_words (set (replicate 2097152 0) 229886 1) scratch
-      ≡ record { answer = Judged (Failed Fld 8162 (counts 123648 7908)); scratch = replicate (length scratch) 0 }
+      ≡ record { answer = Ok (Failed Fld 8162 (counts 123648 7908)); scratch = replicate (length scratch) 0 }
 
 pub last : (scratch : List ℕ) → scratch_fits (length scratch) ≡ true → Last scratch
 unfolding allowed

@@ -1,6 +1,6 @@
 -- P4 and P5 of the bench sheet, of the check's own result.
 -- Assumes nothing.
-use Rattle.std.specs.Prelude.{◌≡◌, refl, Bool, true, false, List, [], map, ℕ, zero, suc, ◌+◌, ◌*◌, ◌<◌, eqb, length, get_or, set, replicate}
+use Rattle.std.specs.Prelude.{◌≡◌, refl, Bool, true, false, List, [], map, ℕ, zero, suc, ◌+◌, ◌*◌, ◌<◌, eqb, length, get_or, set, replicate, Ok}
 use Rattle.std.proofs.Common.{sym, ap, ap₂, ◌∙◌, arith, eqb-true, length-set, get_or-set_same, get_or-set_other}
 use Rattle.std.proofs.lemmas.Bool.{eqb-false}
 use Rattle.std.proofs.lemmas.List.{length-replicate}
@@ -19,7 +19,6 @@ use Rattle.strict.specs.declared.Known.{Known}
 use Rattle.strict.specs.declared.Known.TheVariants.{House}
 use Rattle.strict.specs.Known.{listing_of}
 use Rattle.verdict.specs.declared.Verdict.TheVariants.{Accepted, Failed}
-use Rattle.verdict.specs.declared.CheckAnswer.TheVariants.{Judged}
 use Rattle.verdict.specs.Row.{element_at, cycle_of}
 use Rattle.verdict.specs.Counts.{counts, none, every_row_of}
 use Rattle.verdict.specs.Check.{in_cycle, in_cycles, constraints, met, run, judged, checked}
@@ -36,7 +35,7 @@ use Rattle.field.specs.Gf as gf
 
 pub checked-is : (batch scratch : List ℕ) → length batch ≡ ROW-WORDS → scratch_fits (length scratch) ≡ true
     → checked 1 circuit_words batch scratch
-    ≡ record { answer = Judged (judged 1 circuit_words batch); scratch = replicate (length scratch) 0 }
+    ≡ record { answer = Ok (judged 1 circuit_words batch); scratch = replicate (length scratch) 0 }
 unfolding allowed
 checked-is batch scratch b s = answered-yes 1 circuit_words batch scratch refl in_order s b
 
@@ -61,10 +60,10 @@ zeros-accepted k cpi n =
 
 pub p4 : (scratch : List ℕ) → scratch_fits (length scratch) ≡ true
     → checked 1 circuit_words (replicate ROW-WORDS 0) scratch
-    ≡ record { answer = Judged (Accepted (counts 483 31)); scratch = replicate (length scratch) 0 }
+    ≡ record { answer = Ok (Accepted (counts 483 31)); scratch = replicate (length scratch) 0 }
 p4 scratch s =
     checked-is (replicate ROW-WORDS 0) scratch (length-replicate {A = ℕ} ROW-WORDS 0) s
-    ∙ ap (λ v. record { answer = Judged v; scratch = replicate (length scratch) 0 }) (zeros-accepted House 1 ROW-WORDS)
+    ∙ ap (λ v. record { answer = Ok v; scratch = replicate (length scratch) 0 }) (zeros-accepted House 1 ROW-WORDS)
 
 -- zeros, and 1 in element p: as bits
 pub element-alone : (n p c : ℕ) → 2 * p < n → element_at (set (replicate n 0) (2 * p) 1) c ≡ of_bit (eqb p c)
@@ -106,7 +105,7 @@ one-judged =
     (run-stops (met (cycle_of 1 one_row)) (map (in_cycle 0) bins) [] none (cycle-says (cycle_of 1 one_row) 2048 0 one-view bins bins-told bins-run))
 
 pub p5 : (scratch : List ℕ) → scratch_fits (length scratch) ≡ true
-    → checked 1 circuit_words one_row scratch ≡ record { answer = Judged (Failed Bin 263 (counts 264 0)); scratch = replicate (length scratch) 0 }
+    → checked 1 circuit_words one_row scratch ≡ record { answer = Ok (Failed Bin 263 (counts 264 0)); scratch = replicate (length scratch) 0 }
 p5 scratch s =
     checked-is one_row scratch (length-set {A = ℕ} (replicate ROW-WORDS 0) 4096 1 ∙ length-replicate {A = ℕ} ROW-WORDS 0) s
-    ∙ ap (λ v. record { answer = Judged v; scratch = replicate (length scratch) 0 }) one-judged
+    ∙ ap (λ v. record { answer = Ok v; scratch = replicate (length scratch) 0 }) one-judged

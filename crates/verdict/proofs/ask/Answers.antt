@@ -1,17 +1,18 @@
--- `verdict::ask` meets its contract: each way out peels off the questions before it.
+-- `verdict::ask` meets its contract: each way out peels off the questions that were asked before it.
 -- Assumes nothing.
+use borrow.Author.Rules.{rules}
 use Rattle.layout.specs.Laws.Questions.{asking}
 use Rattle.verdict.specs.Check.{asked}
 use Rattle.verdict.proofs.ask.Goals as goal
 
+pub returns-in_err-ask_batch : goal.returns-in_err-ask_batch
+unfolding asked
+returns-in_err-ask_batch c = search (rules, asking, c.in_err-ask_batch.was)
+
 pub returns-then-not-scratch_fits : goal.returns-then-not-scratch_fits
 unfolding asked
-returns-then-not-scratch_fits c = search asking
+returns-then-not-scratch_fits c = search (asking, c.in_ok-ask_batch.was)
 
-pub returns-in-No : goal.returns-in-No
+pub returns : goal.returns
 unfolding asked
-returns-in-No c = search asking
-
-pub returns-else-not-scratch_fits : goal.returns-else-not-scratch_fits
-unfolding asked
-returns-else-not-scratch_fits c = search asking
+returns c = search (asking, c.in_ok-ask_batch.was)

@@ -1,31 +1,30 @@
 -- In a listing that passes questions 6 to 10 every row is the one that the search finds by its relation and row number: the marks ascend,
 -- so no two are alike, and the first word that is a row's mark is that row's own.
 -- Assumes nothing.
-use Rattle.std.specs.Prelude.{◌≡◌, true, List, [], ◌∷◌, ℕ, suc, ◌+◌, ◌^◌, ◌<◌, ◌≤◌, leb, length, get_or, drop}
+use Rattle.std.specs.Prelude.{◌≡◌, true, List, [], ◌∷◌, ℕ, suc, ◌+◌, ◌^◌, ◌<◌, ◌≤◌, leb, length, get_or, drop, Ok}
 use Rattle.std.proofs.Common.{sym, ap, subst, ◌∙◌, ⊎_elim, true≢false, add-one, arith, eq-eqb, ne_eqb}
 use Rattle.base.specs.Lists.{All}
 use Rattle.base.specs.Laws.Lists.{all_then}
-use Rattle.layout.specs.declared.Asked.TheVariants.{Yes}
 use Rattle.layout.specs.Questions.{no}
 use Rattle.layout.specs.Laws.Questions.{answered}
-use Rattle.circuit.specs.declared.search.Found.TheVariants.{At}
 use Rattle.circuit.specs.Words.{is_mark, mark_word}
 use Rattle.circuit.specs.Rows.{Row}
 use Rattle.circuit.specs.Parse.{parse, rows_of}
 use Rattle.circuit.specs.Valid.{order_of, valid_from, validated}
-use Rattle.circuit.specs.Found.{rows_a_cycle, until, is_word, found}
+use Rattle.circuit.specs.Found.{rows_a_cycle, until, is_word, found, place_at}
 use Rattle.circuit.specs.Laws.Words.{mark-word}
 use Rattle.circuit.specs.Laws.Search.{found_first}
 use Rattle.circuit.specs.Laws.Valid.{MarkPassed, TermPassed, passed-word, place-fits}
 use Rattle.verdict.specs.RowParts.{row_of}
 use Rattle.verdict.specs.Laws.RowParts.{rows-mark, rows-term}
+use Rattle.layout.specs.declared.questions.Question.TheVariants.{ListingLength}
 
 -- the search finds a row, and behind the mark there stand its terms
 pub record FoundAs (ws : List ℕ) (r : Row) : Type 0 where
   pub start : ℕ
   pub end : ℕ
   pub number_fits : r.number < rows_a_cycle r.relation
-  pub place : found ws r.relation r.number ≡ At start end
+  pub place : found ws r.relation r.number ≡ place_at start end
   pub sides : (parse (drop (start + 1) ws)).before ≡ r.sides
 
 -- ---- from any word on, where the marks to come have at least a given place in the order of marks
@@ -70,7 +69,7 @@ behind low l w ws r h other a =
       sides = ap (λ (n : ℕ). (parse (drop (suc n) (w ∷ ws))).before) at ∙ a.sides;
     }
 
-rows-ahead : (i low kind : ℕ) (ws : List ℕ) → ((n : ℕ) → get_or ws n 0 < 2 ^ 32) → valid_from i low kind ws ≡ Yes
+rows-ahead : (i low kind : ℕ) (ws : List ℕ) → ((n : ℕ) → get_or ws n 0 < 2 ^ 32) → valid_from i low kind ws ≡ Ok tt
     → All (Ahead low ws) (rows_of ws)
 unfolding parse
 rows-ahead i low kind [] fit e = tt
@@ -95,7 +94,7 @@ rows-ahead i low kind (w ∷ ws) fit e =
 
 -- ---- a listing that questions 6 to 10 pass. Its words are of 32 bits, as those of a lent listing are: a larger number may stand for a
 -- mark too, and is no word that the search looks for
-pub rows-found : (ws : List ℕ) → ((i : ℕ) → get_or ws i 0 < 2 ^ 32) → validated ws ≡ Yes → All (FoundAs ws) (rows_of ws)
+pub rows-found : (ws : List ℕ) → ((i : ℕ) → get_or ws i 0 < 2 ^ 32) → validated ws ≡ Ok tt → All (FoundAs ws) (rows_of ws)
 unfolding validated
 rows-found ws fit e =
     all_then (Ahead 0 ws) (FoundAs ws)
@@ -106,4 +105,4 @@ rows-found ws fit e =
       place = found_first ws r.relation r.number a.few a.inside;
       sides = ap (λ (n : ℕ). (parse (drop n ws)).before) (add-one (place_of ws r)) ∙ a.sides;
     })
-    (rows_of ws) (rows-ahead 0 0 0 ws fit (answered (leb (length ws) 16384) (valid_from 0 0 0 ws) (no 6 0) e).1)
+    (rows_of ws) (rows-ahead 0 0 0 ws fit (answered (leb (length ws) 16384) (valid_from 0 0 0 ws) (no ListingLength 0) e).1)

@@ -1,21 +1,18 @@
 -- What a failing verdict names: a cycle of the batch and a row of the listing. The way back from the batch row gives both, the search by
 -- them finds that very row, and in that cycle it does not hold.
 -- Assumes nothing.
-use Rattle.std.specs.Prelude.{◌≡◌, refl, true, false, List, ◌∷◌, ℕ, ◌+◌, ◌^◌, ◌<◌, get_or, drop}
+use Rattle.std.specs.Prelude.{◌≡◌, refl, true, false, List, ◌∷◌, ℕ, ◌+◌, ◌^◌, ◌<◌, get_or, drop, Ok}
 use Rattle.std.proofs.Common.{sym}
 use Rattle.std.proofs.Math.Path.{subst}
 use Rattle.base.specs.Lists.{All}
 use Rattle.base.specs.Laws.Lists.{all_right, all_then}
-use Rattle.layout.specs.declared.Asked.TheVariants.{Yes}
 use Rattle.layout.specs.Batch.{allowed}
 use Rattle.circuit.specs.declared.Relation.{Relation}
-use Rattle.circuit.specs.declared.search.Found.TheVariants.{At}
-use Rattle.circuit.specs.declared.batch.CycleRowAnswer.TheVariants.{At as In}
 use Rattle.circuit.specs.Rows.{Sides}
 use Rattle.circuit.specs.Parse.{parse, rows_of}
 use Rattle.circuit.specs.Valid.{validated}
-use Rattle.circuit.specs.Found.{rows_a_cycle, found}
-use Rattle.circuit.specs.Batched.{batch_row, unmapped_row}
+use Rattle.circuit.specs.Found.{rows_a_cycle, found, place_at}
+use Rattle.circuit.specs.Batched.{batch_row, unmapped_row, cycle_row}
 use Rattle.circuit.proofs.Laws.BatchRows.{back-of-row}
 use Rattle.verdict.specs.declared.Counts.{Counts}
 use Rattle.verdict.specs.declared.Verdict.{Verdict}
@@ -37,13 +34,13 @@ pub record Names (cpi : ℕ) (listing batch : List ℕ) (rel : Relation) (b : �
   pub in-batch : cycle < cpi
   pub in-relation : number < rows_a_cycle rel
   pub batch-row : b ≡ batch_row rel cycle number
-  pub back : unmapped_row cpi rel b ≡ In cycle number
-  pub place : found listing rel number ≡ At start end
+  pub back : unmapped_row cpi rel b ≡ cycle_row cycle number
+  pub place : found listing rel number ≡ place_at start end
   pub row_is : (parse (drop (start + 1) listing)).before ≡ sides
   pub fails : holds (cycle_of cpi batch cycle) sides ≡ false
 
 module _ (cpi : ℕ) (listing batch : List ℕ) (size : allowed cpi ≡ true) (fit : (i : ℕ) → get_or listing i 0 < 2 ^ 32)
-    (valid : validated listing ≡ Yes) where
+    (valid : validated listing ≡ Ok tt) where
   abbrev Findable : Constraint → Type 0
   Findable k = (k.cycle < cpi) × FoundAs listing k.row
 

@@ -1,10 +1,9 @@
 -- The index that splits a listing in order into the words of its bin rows and those of its fld rows.
 -- Assumes nothing.
-use Rattle.std.specs.Prelude.{◌≡◌, refl, Bool, true, false, cond, ◌&&◌, List, [], ◌∷◌, ℕ, zero, suc, ◌%◌, ◌^◌, ◌≤◌, eqb, leb, length, take, drop}
+use Rattle.std.specs.Prelude.{◌≡◌, refl, Bool, true, false, cond, ◌&&◌, List, [], ◌∷◌, ℕ, zero, suc, ◌%◌, ◌^◌, ◌≤◌, eqb, leb, length, take, drop, Ok}
 use Rattle.std.proofs.Common.{sym, ap, ap₂, ◌∙◌, ⊎_elim, true≢false, arith, eqb-true, eq-eqb, leb-true}
 use Rattle.std.proofs.lemmas.Bool.{false≢true, eqb-false}
 use Rattle.base.specs.Laws.Tests.{both, passed, refused}
-use Rattle.layout.specs.declared.Asked.TheVariants.{Yes}
 use Rattle.layout.specs.Questions.{no}
 use Rattle.layout.specs.Laws.Questions.{answered}
 use Rattle.circuit.specs.declared.Relation.TheVariants.{Bin, Fld}
@@ -19,6 +18,7 @@ use Rattle.verdict.specs.RowParts.{sorted, term_of, row_of}
 use Rattle.verdict.specs.Order.{is_fld_mark}
 use Rattle.verdict.specs.Laws.RowParts.{parse-mark, parse-term, rows-mark, rows-term}
 use Rattle.verdict.specs.Laws.Order.{valid-rows}
+use Rattle.layout.specs.declared.questions.Question.TheVariants.{ListingLength}
 
 -- every mark is that of a fld row; no mark of a bin row behind one of a fld row
 unfoldable pub fld_only : List ℕ → Bool
@@ -41,7 +41,7 @@ mark-fld w e = by-test (is_mark w) refl e
     by-test true m f = (m, eqb-true (flag_of w) 1 f)
     by-test false m f = absurd (false≢true f)
 
-valid-fld : (i low kind : ℕ) (ws : List ℕ) → 512 ≤ low → valid_from i low kind ws ≡ Yes → fld_only ws ≡ true
+valid-fld : (i low kind : ℕ) (ws : List ℕ) → 512 ≤ low → valid_from i low kind ws ≡ Ok tt → fld_only ws ≡ true
 unfolding fld_only
 valid-fld i low kind [] h e = refl
 valid-fld i low kind (w ∷ ws) h e =
@@ -55,7 +55,7 @@ valid-fld i low kind (w ∷ ws) h e =
     by-mark true = refl
     by-mark false = refl
 
-pub valid-first : (i low kind : ℕ) (ws : List ℕ) → valid_from i low kind ws ≡ Yes → bin_first ws ≡ true
+pub valid-first : (i low kind : ℕ) (ws : List ℕ) → valid_from i low kind ws ≡ Ok tt → bin_first ws ≡ true
 unfolding bin_first
 valid-first i low kind [] e = refl
 valid-first i low kind (w ∷ ws) e =
@@ -184,10 +184,10 @@ pub record InOrder (ws : List ℕ) : Type 0 where
   pub bin-rows : sorted 3 (take (until is_fld_mark ws) ws) ≡ true
   pub fld-rows : sorted 3 (drop (until is_fld_mark ws) ws) ≡ true
 
-pub in_order : (ws : List ℕ) → validated ws ≡ Yes → InOrder ws
+pub in_order : (ws : List ℕ) → validated ws ≡ Ok tt → InOrder ws
 unfolding validated
 in_order ws e =
-    let a = answered (leb (length ws) 16384) (valid_from 0 0 0 ws) (no 6 0) e in let s = valid-rows ws a.1 in
+    let a = answered (leb (length ws) 16384) (valid_from 0 0 0 ws) (no ListingLength 0) e in let s = valid-rows ws a.1 in
     record {
       few = leb-true (length ws) 16384 a.0;
       inside = until-le is_fld_mark ws;

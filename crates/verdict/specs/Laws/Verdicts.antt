@@ -1,7 +1,7 @@
 -- What a verdict says, for whoever builds on it: acceptance is that every row holds in every cycle; a cycle that fails gives the verdict,
 -- and the cycles before it count. What a failure names, Run says.
 -- Assumes nothing.
-use Rattle.std.specs.Prelude.{◌≡◌, ◌↔◌, Bool, cond, ℕ, zero, suc, ◌+◌, ◌<◌, ◌≤◌, length, replicate}
+use Rattle.std.specs.Prelude.{◌≡◌, ◌↔◌, Bool, cond, ℕ, zero, suc, ◌+◌, ◌<◌, ◌≤◌, length, replicate, Err, Ok}
 use Rattle.std.proofs.Common.{sym, ◌∙◌, arith}
 use Rattle.std.proofs.Math.Path.{ap}
 use Rattle.std.proofs.Math.Bool.{true, false}
@@ -10,7 +10,6 @@ use Rattle.base.specs.Lists.{All, from_each}
 use Rattle.base.specs.Laws.Tests.{passed}
 use Rattle.base.specs.Laws.Lists.{all_append, all_left, all_right, all_map}
 use Rattle.base.specs.Laws.From.{all-each}
-use Rattle.layout.specs.declared.Asked.TheVariants.{Yes, No}
 use Rattle.layout.specs.Batch.{allowed, batch_words, scratch_fits}
 use Rattle.layout.specs.Laws.Questions.{if_yes_lem, yes-batch}
 use Rattle.circuit.specs.declared.Relation.{Relation}
@@ -20,7 +19,6 @@ use Rattle.circuit.specs.Parse.{rows_of}
 use Rattle.circuit.specs.Valid.{validated}
 use Rattle.verdict.specs.declared.Counts.{Counts}
 use Rattle.verdict.specs.declared.Verdict.TheVariants.{Accepted, Failed}
-use Rattle.verdict.specs.declared.CheckAnswer.TheVariants.{Judged}
 use Rattle.verdict.specs.Counts.{none, every_row}
 use Rattle.verdict.specs.Check.{Constraint, in_cycle, in_cycles, constraints, met, run, judged, asked, after, checked}
 use Rattle.verdict.specs.Row.{cycle_of, holds}
@@ -119,11 +117,11 @@ module _ (cpi : ℕ) (listing batch : List ℕ) where
       (met-run (met (cycle_of cpi batch)) (constraints cpi (rows_of listing)) none n e)
 
 -- ---- the check as it is called: where every question is answered with yes, it is the verdict, and zeros in the scratch
-pub answered-yes : (cpi : ℕ) (listing batch scratch : List ℕ) → allowed cpi ≡ true → validated listing ≡ Yes
+pub answered-yes : (cpi : ℕ) (listing batch scratch : List ℕ) → allowed cpi ≡ true → validated listing ≡ Ok tt
     → scratch_fits (length scratch) ≡ true
     → length batch ≡ batch_words cpi
-    → checked cpi listing batch scratch ≡ record { answer = Judged (judged cpi listing batch); scratch = replicate (length scratch) 0 }
+    → checked cpi listing batch scratch ≡ record { answer = Ok (judged cpi listing batch); scratch = replicate (length scratch) 0 }
 unfolding checked asked
 answered-yes cpi listing batch scratch size valid room words =
     ap (λ q. after q (judged cpi listing batch) scratch)
-    (sym (sym valid ∙ passed _ _ _ room ∙ if_yes_lem No _ (yes-batch cpi (length batch) size words)))
+    (sym (sym valid ∙ passed _ _ _ room ∙ if_yes_lem Err _ (yes-batch cpi (length batch) size words)))

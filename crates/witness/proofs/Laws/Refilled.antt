@@ -1,7 +1,7 @@
 -- Filling a made row changes nothing where the record's halt and taken are what the filler would write: it reads the given words back, and
 -- the derived ones stand there already.
 -- Assumes nothing.
-use Rattle.std.specs.Prelude.{◌≡◌, ℕ, ◌+◌, ◌*◌, ◌/◌, ◌%◌, ◌^◌, ◌<◌, ◌≤◌, Bool, false, not, ◌&&◌, List, slice_index, refl}
+use Rattle.std.specs.Prelude.{◌≡◌, ℕ, ◌+◌, ◌*◌, ◌/◌, ◌%◌, ◌^◌, ◌<◌, ◌≤◌, Bool, false, not, ◌&&◌, List, slice_index, refl, Ok}
 use Rattle.std.proofs.Common.{sym, ap₂, subst, ◌∙◌}
 use Rattle.std.proofs.Math.Path.{ap}
 use native.Mathlib.Omega.{arith}
@@ -11,11 +11,9 @@ use Rattle.base.specs.Blocks.{block}
 use Rattle.base.specs.Laws.Lists.{◌and◌}
 use Rattle.base.specs.Laws.First.{first-none}
 use Rattle.field.specs.Gf.{of_bit}
-use Rattle.layout.specs.declared.Asked.{Asked}
-use Rattle.layout.specs.declared.Asked.TheVariants.{Yes}
 use Rattle.layout.specs.Columns.{HALT, TAKEN}
 use Rattle.layout.specs.Batch.{allowed}
-use Rattle.layout.specs.Questions.{after}
+use Rattle.layout.specs.Questions.{after, Asked}
 use Rattle.verdict.specs.Row.{element_at}
 use Rattle.step.specs.Derived.{derived_in}
 use Rattle.step.specs.Filling.{filled}
@@ -132,7 +130,7 @@ module _ (r : CycleRecord) (m : RomRow) (public : List ℕ) (fit : Words r) wher
         }
 
     -- the filler answers yes, and leaves the row as it was made
-    pub filling-keeps : called 1 row ≡ record { answer = Yes; batch = row }
+    pub filling-keeps : called 1 row ≡ record { answer = Ok tt; batch = row }
     unfolding called
     filling-keeps = ap (λ (a : Asked). after a (filled 1 row) row) (passed-all 1 row passes)
-        ∙ ap (λ (u : List ℕ). record { answer = Yes; batch = u }) keeps
+        ∙ ap (λ (u : List ℕ). record { answer = Ok tt; batch = u }) keeps

@@ -1,11 +1,10 @@
 -- An assembled batch as the check sees it: by element.
 -- Assumes nothing.
-use Rattle.std.specs.Prelude.{◌≡◌, ℕ, ◌+◌, ◌*◌, ◌/◌, ◌%◌, ◌<◌, ◌≤◌, List, length, slice_index, refl}
+use Rattle.std.specs.Prelude.{◌≡◌, ℕ, ◌+◌, ◌*◌, ◌/◌, ◌%◌, ◌<◌, ◌≤◌, List, length, slice_index, refl, Ok}
 use Rattle.std.proofs.Common.{sym, subst, ◌∙◌, add-zero, arith}
 use Rattle.std.proofs.Math.Path.{ap, ap₂}
 use Rattle.std.proofs.Math.Arith.{digits_lt, digits_div, digits_mod}
 use Rattle.field.specs.Gf.{of_words}
-use Rattle.layout.specs.declared.Asked.TheVariants.{Yes}
 use Rattle.layout.specs.Batch.{batch_words}
 use Rattle.layout.specs.Laws.Mapping.{witness-column}
 use Rattle.layout.specs.Laws.Questions.{both_yes, after-yes}
@@ -67,7 +66,7 @@ module _ (cpi : ℕ) (cycles public : List ℕ) where
 
 -- of the call: where it answers yes, it leaves such a batch
 pub yes-assembled : (cpi : ℕ) (cycles public came batch : List ℕ)
-    → assembly_called cpi cycles public came ≡ record { answer = Yes; batch = batch } → Assembled cpi cycles public batch
+    → assembly_called cpi cycles public came ≡ record { answer = Ok tt; batch = batch } → Assembled cpi cycles public batch
 unfolding assembly_called assembly_asked
 yes-assembled cpi cycles public came batch e =
     let a = after-yes (assembly_asked cpi (length cycles) (length public) (length came)) _ came batch e in

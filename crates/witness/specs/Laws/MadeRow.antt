@@ -1,7 +1,7 @@
 -- What is true of every made row: its elements, that it is bits below the one column, and that filling it changes nothing where the
 -- record's halt and taken are what the filler would write.
 -- Assumes nothing.
-use Rattle.std.specs.Prelude.{◌≡◌, ℕ, ◌+◌, ◌*◌, ◌/◌, ◌%◌, ◌<◌, ◌≤◌, true, false, not, List, length, nat_eq}
+use Rattle.std.specs.Prelude.{◌≡◌, ℕ, ◌+◌, ◌*◌, ◌/◌, ◌%◌, ◌<◌, ◌≤◌, true, false, not, List, length, nat_eq, None, Ok}
 use Rattle.std.proofs.Math.Path.{refl, sym, ap, ap₂}
 use Rattle.std.proofs.Common.{◌∙◌}
 use native.Mathlib.Omega.{arith}
@@ -14,7 +14,6 @@ use Rattle.field.specs.Gf.{of_words, is_bit, of_bit}
 use Rattle.field.specs.Gf.Tests.{is_bit-bit}
 use Rattle.field.specs.Gf.Bits.{bit-words}
 use Rattle.layout.specs.Batch.{allowed, ROW-WORDS}
-use Rattle.verdict.specs.declared.bits.BitAnswer.TheVariants.{AllBits}
 use Rattle.verdict.specs.Row.{element_at}
 use Rattle.verdict.specs.Bits.{above_one, bit_tested}
 use Rattle.verdict.specs.Laws.BitTest.{all-bits-said}
@@ -65,6 +64,6 @@ module _ (r : CycleRecord) (m : RomRow) (public : List ℕ) where
   pub not-above : (c : ℕ) → c < 2048 → above_one row c ≡ false
   not-above c l = ap (λ (x : Gf128). not (is_bit x)) (bit-at c l) ∙ ap not (is_bit-bit (row_bit r m c))
 
-  pub all-bits : bit_tested 1 row ≡ AllBits
+  pub all-bits : bit_tested 1 row ≡ Ok None
   unfolding allowed
   all-bits = all-bits-said 1 row refl row-length not-above

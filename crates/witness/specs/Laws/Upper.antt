@@ -1,11 +1,10 @@
 -- The parts of a row or a batch below and from the one column on, and what a yes to questions 1 to 3 says.
 -- Assumes nothing.
-use Rattle.std.specs.Prelude.{◌≡◌, ℕ, suc, ◌-◌, ◌*◌, ◌%◌, ◌<◌, ◌≤◌, Bool, true, false, cond, List, ◌∷◌, ◌==◌, nat_le, slice_index}
+use Rattle.std.specs.Prelude.{◌≡◌, ℕ, suc, ◌-◌, ◌*◌, ◌%◌, ◌<◌, ◌≤◌, Bool, true, false, cond, List, ◌∷◌, ◌==◌, nat_le, slice_index, Ok}
 use Rattle.std.proofs.Math.Path.{sym}
 use Rattle.std.proofs.Common.{ap, arith, lt-ltb, le-ltb, leb-true}
 use Rattle.std.proofs.lemmas.Bool.{false≢true}
 use Rattle.base.specs.Laws.Tests.{passed, refused}
-use Rattle.layout.specs.declared.Asked.TheVariants.{Yes}
 use Rattle.layout.specs.Batch.{allowed, batch_words, batch_asked}
 use Rattle.layout.specs.Laws.Questions.{answered, both_yes, batch-yes}
 use Rattle.witness.specs.Upper.{upper_word, batch_word, public_fits, public_asked}
@@ -34,7 +33,7 @@ fits-most words most e = go (words % 2 == 0) e
     go true q = leb-true words most q
     go false q = absurd (false≢true q)
 
-pub public-yes : (cpi public batch : ℕ) → public_asked cpi public batch ≡ Yes
+pub public-yes : (cpi public batch : ℕ) → public_asked cpi public batch ≡ Ok tt
     → (allowed cpi ≡ true) × ((batch ≡ batch_words cpi) × (public ≤ 4096 * cpi - 2))
 unfolding public_asked
 public-yes cpi public batch e =

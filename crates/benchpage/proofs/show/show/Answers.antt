@@ -9,22 +9,22 @@ use Rattle.benchpage.proofs.show.show.Goals as goal
 
 pub put_failing-requires : goal.put_failing-requires
 put_failing-requires c =
-    let n = failed-named c.args.bytes.now _ c.check_bytes-answer.ensures _ _ _ _ c.in-Judged.is c.in-Failed.is in
+    let n = failed-named c.args.bytes.now _ c.check_bytes-answer.ensures _ _ _ _ c.in-Ok.is c.in-Failed.is in
     (search rules, (n.whole, n.few))
 
-pub returns-in-Refused : goal.returns-in-Refused
-returns-in-Refused c =
-    placed-as _ _ _ _ _ _ (refused-printed c.args.bytes.now _ c.check_bytes-answer.ensures _ c.in-Refused.is)
+pub returns-in-Err : goal.returns-in-Err
+returns-in-Err c =
+    placed-as _ _ _ _ _ _ (refused-printed c.args.bytes.now _ c.check_bytes-answer.ensures _ c.in-Err.is)
     (put-fits _ _ _ _ _ (omega (arith, line-short c.check_bytes-answer.result)) c.put_answer.ensures)
 
 pub returns-in-Accepted : goal.returns-in-Accepted
 returns-in-Accepted c =
     placed-as _ _ _ _ _ _
-    (accepted-printed c.args.bytes.now _ c.check_bytes-answer.ensures _ _ c.in-Judged.is c.in-Accepted.is)
-    (put-fits _ _ _ _ _ (omega (arith, verdict-short c.in-Judged.v)) c.put_answer-in-Accepted.ensures)
+    (accepted-printed c.args.bytes.now _ c.check_bytes-answer.ensures _ _ c.in-Ok.is c.in-Accepted.is)
+    (put-fits _ _ _ _ _ (omega (arith, verdict-short c.in-Ok.v)) c.put_answer-in-Accepted.ensures)
 
 pub returns-in-Failed : goal.returns-in-Failed
 returns-in-Failed c =
     placed-as _ _ _ _ _ _
-    (failed-printed c.args.bytes.now _ c.check_bytes-answer.ensures _ _ _ _ c.in-Judged.is c.in-Failed.is)
+    (failed-printed c.args.bytes.now _ c.check_bytes-answer.ensures _ _ _ _ c.in-Ok.is c.in-Failed.is)
     c.put_failing.ensures

@@ -23,5 +23,5 @@ overflow_add-result-in-NotBit-2 c = omega (arith, ap bit_number c.in-NotBit.is)
 pub returns-in-NotBit : goal.returns-in-NotBit
 returns-in-NotBit c = omega (arith, ap bit_number c.in-NotBit.is)
 
-pub returns-in-Refused : goal.returns-in-Refused
-returns-in-Refused c = c.refused_at.ensures ∙ sym (ap bit_number c.in-Refused.is)
+pub returns-in-Err : goal.returns-in-Err
+returns-in-Err c = c.refused_at.ensures ∙ sym (ap bit_number c.in-Err.is)

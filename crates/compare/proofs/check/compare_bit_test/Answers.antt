@@ -9,19 +9,18 @@ use borrow.Author.Rules.{rules}
 use borrow.Author.Tests.{ltb-true}
 use lib.Dec.{eqb, ltb}
 use lib.ListN.{length}
-use Rattle.layout.specs.Batch.{allowed, unmapped, batch_words, batch_asked}
-use Rattle.layout.specs.Questions.{no, if_yes}
+use Rattle.layout.specs.Batch.{allowed, unmapped, batch_words, batch_asked, cycle_column}
+use Rattle.layout.specs.Questions.{no, if_yes, Answer}
 use Rattle.layout.specs.Laws.Sizes.{allowed-range}
-use Rattle.layout.specs.declared.Asked.TheVariants.{Yes, No}
-use Rattle.layout.specs.declared.CycleColumnAnswer.TheVariants.{At, Refused as NotMapped}
-use Rattle.verdict.specs.declared.bits.BitAnswer.{BitAnswer}
-use Rattle.verdict.specs.declared.bits.BitAnswer.TheVariants.{AllBits, Refused}
 use Rattle.base.specs.Tests.{first_from}
 use Rattle.verdict.specs.Bits.{above_one, placed, bit_tested}
 use Rattle.compare.specs.Replies.{bit_number}
 use Rattle.compare.proofs.check.compare_bit_test.Goals as goal
+use Rattle.layout.specs.declared.questions.Question.TheVariants.{BatchLength, BatchSize, ColumnRange}
+use Rattle.std.specs.Prelude.{Err, None, Ok, Option}
+use Rattle.verdict.specs.declared.bits.NotBit.{NotBit}
 
-abbrev Fits : BitAnswer → Type 0
+abbrev Fits : Answer (Option NotBit) → Type 0
 Fits a = bit_number a < 2 ^ 64
 
 fits : (cpi : ℕ) (batch : List ℕ) → Fits (bit_tested cpi batch)
@@ -34,8 +33,8 @@ fits cpi batch = by_tests (allowed cpi) (eqb (length batch) (batch_words cpi)) (
     by_tests :
         (a q t : Bool) → allowed cpi ≡ a → ltb at (2048 * cpi) ≡ t
         → Fits
-        (if_yes Refused (cond a (cond q Yes (No (no 2 0))) (No (no 1 0)))
-        (cond t (placed at (cond a (cond t (At (at / cpi) (at % cpi)) (NotMapped (no 14 0))) (NotMapped (no 1 0)))) AllBits))
+        (if_yes Err (cond a (cond q (Ok tt) (Err (no BatchLength 0))) (Err (no BatchSize 0)))
+        (cond t (placed at (cond a (cond t (cycle_column (at / cpi) (at % cpi)) (Err (no ColumnRange 0))) (Err (no BatchSize 0)))) (Ok None)))
     by_tests true true true ok e =
         let range = allowed-range cpi ok in let below = ltb-true at (2048 * cpi) e in
         omega (arith, range, below, (div-lt_iff_lt-mul range.0).1 below, mod-lt at range.0)

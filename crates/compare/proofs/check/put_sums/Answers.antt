@@ -4,10 +4,10 @@ use borrow.Author.Rules.{rules}
 use Rattle.compare.specs.Replies.{reply, sums_reply}
 use Rattle.compare.proofs.check.put_sums.Goals as goal
 
-pub returns-in-Of : goal.returns-in-Of
-returns-in-Of c = ap (reply 0) c.write_sums.ensures ∙ sym (ap (λ a. sums_reply a c.args.out.now) c.in-Of.is)
+pub returns-in-Ok : goal.returns-in-Ok
+returns-in-Ok c = ap (reply 0) c.write_sums.ensures ∙ sym (ap (λ a. sums_reply a c.args.out.now) c.in-Ok.is)
 
-pub returns-in-Refused : goal.returns-in-Refused
-returns-in-Refused c =
+pub returns-in-Err : goal.returns-in-Err
+returns-in-Err c =
     ap₂ reply c.refused_at.ensures refl ∙ sym (ap (λ a. sums_reply a c.args.out.now)
-    c.in-Refused.is)
+    c.in-Err.is)

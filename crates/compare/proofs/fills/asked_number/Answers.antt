@@ -4,5 +4,5 @@ use borrow.Author.Rules.{rules}
 use Rattle.compare.specs.Replies.{asked_number}
 use Rattle.compare.proofs.fills.asked_number.Goals as goal
 
-pub returns-in-No : goal.returns-in-No
-returns-in-No c = c.refused_at.ensures ∙ sym (ap asked_number c.in-No.is)
+pub returns-in-Err : goal.returns-in-Err
+returns-in-Err c = c.refused_at.ensures ∙ sym (ap asked_number c.in-Err.is)

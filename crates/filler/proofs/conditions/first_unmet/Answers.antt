@@ -21,12 +21,12 @@ returns-then-cpi-cycle c = search asking
 
 pub unmet_in-requires : goal.unmet_in-requires
 unmet_in-requires c =
-    let p = all-passed _ _ (sym c.ask.ensures ∙ c.in-Yes.is) in
+    let p = all-passed _ _ (sym c.ask.ensures ∙ c.in-Ok.is) in
     record { few = (allowed-range _ p.size).1; inside = c.if-cpi-cycle.false; words = p.words }
 
-pub returns-in-No : goal.returns-in-No
+pub returns-in-Err : goal.returns-in-Err
 unfolding step_answer
-returns-in-No c = search asking
+returns-in-Err c = search asking
 
 pub returns-else-cpi-cycle : goal.returns-else-cpi-cycle
 unfolding step_answer

@@ -10,12 +10,12 @@ unfolding fill_asked
 ask_batch-requires c = search rules
 
 pub ask_columns-requires : goal.ask_columns-requires
-ask_columns-requires c = batch-yes _ _ (sym c.ask_batch.ensures ∙ c.in-Yes.is)
+ask_columns-requires c = batch-yes _ _ (sym c.ask_batch.ensures ∙ c.in-Ok.is)
 
-pub returns-in-No : goal.returns-in-No
+pub returns-in-Err : goal.returns-in-Err
 unfolding fill_asked
-returns-in-No c = search asking
+returns-in-Err c = search asking
 
-pub returns-in-Yes : goal.returns-in-Yes
+pub returns-in-Ok : goal.returns-in-Ok
 unfolding fill_asked
-returns-in-Yes c = search asking
+returns-in-Ok c = search asking

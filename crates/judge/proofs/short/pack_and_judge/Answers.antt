@@ -18,5 +18,5 @@ returns-in-Bits c = of-bits _ _ _ _ c.requires c.pack.ensures c.in-Bits.is c.ele
 pub returns-in-NotBits : goal.returns-in-NotBits
 returns-in-NotBits c = not-of-bits _ _ _ _ c.requires c.pack.ensures (not-bits c.in-NotBits.is)
 
-pub returns-in-Refused : goal.returns-in-Refused
-returns-in-Refused c = not-of-bits _ _ _ _ c.requires c.pack.ensures (refused-bits c.in-Refused.is)
+pub returns-in-Err : goal.returns-in-Err
+returns-in-Err c = not-of-bits _ _ _ _ c.requires c.pack.ensures (refused-bits c.in-Err.is)

@@ -8,8 +8,8 @@ use Rattle.packed.proofs.storage.rearrange.Goals as goal
 pub put_into-requires : goal.put_into-requires
 put_into-requires c = search (order-in, told)
 
-pub returns-in-No : goal.returns-in-No
-returns-in-No c = search (called-no, told)
+pub returns-in-Err : goal.returns-in-Err
+returns-in-Err c = search (called-no, told)
 
-pub returns-in-Yes : goal.returns-in-Yes
-returns-in-Yes c = search (called-yes, told)
+pub returns-in-Ok : goal.returns-in-Ok
+returns-in-Ok c = search (called-yes, told)

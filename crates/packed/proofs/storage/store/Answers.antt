@@ -11,8 +11,8 @@ hand-requires c = search (asked-yes-in, told)
 pub returns-then-not-hand : goal.returns-then-not-hand
 returns-then-not-hand c = search (stored_no, asked-yes-in, told)
 
-pub returns-in-No : goal.returns-in-No
-returns-in-No c = search (stored-none, told)
+pub returns-in-Err : goal.returns-in-Err
+returns-in-Err c = search (stored-none, told)
 
 pub returns-else-not-hand : goal.returns-else-not-hand
 returns-else-not-hand c = search (stored-yes, asked-yes-in, told)

@@ -6,10 +6,10 @@ use Rattle.packed.proofs.Laws.Unpack.{unpack-in, unpack-none, unpack-yes}
 use Rattle.packed.proofs.storage.unpack.Goals as goal
 
 pub lay_words-requires : goal.lay_words-requires
-lay_words-requires c = unpack-in _ _ _ (sym c.ask.ensures ∙ c.in-Yes.is)
+lay_words-requires c = unpack-in _ _ _ (sym c.ask.ensures ∙ c.in-Ok.is)
 
-pub returns-in-No : goal.returns-in-No
-returns-in-No c = search (unpack-none, told)
+pub returns-in-Err : goal.returns-in-Err
+returns-in-Err c = search (unpack-none, told)
 
-pub returns-in-Yes : goal.returns-in-Yes
-returns-in-Yes c = search (unpack-yes, told)
+pub returns-in-Ok : goal.returns-in-Ok
+returns-in-Ok c = search (unpack-yes, told)

@@ -4,10 +4,10 @@ use native.Mathlib.Omega.{arith}
 use Rattle.text.specs.Laws.Put.{placed-then}
 use Rattle.page.proofs.line.place_answer.Goals as goal
 
-pub returns-in-Judged : goal.returns-in-Judged
-returns-in-Judged c = rw c.in-Judged.is c.place_verdict.ensures
+pub returns-in-Ok : goal.returns-in-Ok
+returns-in-Ok c = rw c.in-Ok.is c.place_verdict.ensures
 
-pub returns-in-Refused : goal.returns-in-Refused
-returns-in-Refused c =
-    rw c.in-Refused.is
+pub returns-in-Err : goal.returns-in-Err
+returns-in-Err c =
+    rw c.in-Err.is
     (placed-then (omega arith) (placed-then (omega arith) c.place-number.ensures c.place_decimal-end.ensures.0) c.place.ensures)

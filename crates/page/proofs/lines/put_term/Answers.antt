@@ -12,24 +12,24 @@ pub put_placed-requires : goal.put_placed-requires
 put_placed-requires c =
     let b = c.requires.1.0 in
     let e = placed-column c.args.cpi c.args.column c.args.cycle _ b.size c.requires.1.1.0 b.inside (sym
-    c.map_z_col.ensures ∙ c.in-At.is) in
+    c.map_z_col.ensures ∙ c.in-Ok.is) in
     let l = column-inside c.args.cpi c.args.column c.args.cycle c.requires.1.1.0 b.inside in
     let w = b.words in let s = allowed-range _ b.size in
     (c.requires.0, (omega arith, (omega arith, c.requires.1.1.1)))
 
-pub returns-in-At : goal.returns-in-At
-returns-in-At c =
+pub returns-in-Ok : goal.returns-in-Ok
+returns-in-Ok c =
     let b = c.requires.1.0 in (
       placed-as _ _ _ _ _ _
           (term-line c.args.cpi c.args.cycle c.args.column _ c.args.batch.now c.args.side c.args.k
           (placed-column c.args.cpi c.args.column c.args.cycle _ b.size c.requires.1.1.0 b.inside
-          (sym c.map_z_col.ensures ∙ c.in-At.is)))
+          (sym c.map_z_col.ensures ∙ c.in-Ok.is)))
           c.put_placed.ensures.0,
       c.put_placed.ensures.1,
     )
 
-pub returns-in-Refused : goal.returns-in-Refused
-returns-in-Refused c =
+pub returns-in-Err : goal.returns-in-Err
+returns-in-Err c =
     let b = c.requires.1.0 in
     absurd (never-refused c.args.cpi c.args.column c.args.cycle _ b.size c.requires.1.1.0 b.inside
-    (sym c.map_z_col.ensures ∙ c.in-Refused.is))
+    (sym c.map_z_col.ensures ∙ c.in-Err.is))

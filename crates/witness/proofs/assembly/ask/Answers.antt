@@ -8,15 +8,15 @@ use Rattle.witness.specs.Laws.Upper.{public-yes}
 use Rattle.witness.proofs.assembly.ask.Goals as goal
 
 pub overflow_mul-cpi : goal.overflow_mul-cpi
-overflow_mul-cpi c = omega (arith, allowed-range _ (public-yes _ _ _ (sym c.ask_public.ensures ∙ c.in-Yes.is)).0)
+overflow_mul-cpi c = omega (arith, allowed-range _ (public-yes _ _ _ (sym c.ask_public.ensures ∙ c.in-Ok.is)).0)
 
 pub returns-then-cycles-cpi : goal.returns-then-cycles-cpi
 unfolding assembly_asked
 returns-then-cycles-cpi c = search asking
 
-pub returns-in-No : goal.returns-in-No
+pub returns-in-Err : goal.returns-in-Err
 unfolding assembly_asked
-returns-in-No c = search asking
+returns-in-Err c = search asking
 
 pub returns-else-cycles-cpi : goal.returns-else-cycles-cpi
 unfolding assembly_asked

@@ -7,18 +7,18 @@ use Rattle.witness.specs.Upper.{public_asked}
 use Rattle.witness.proofs.upper.ask_public.Goals as goal
 
 pub overflow_mul-cpi : goal.overflow_mul-cpi
-overflow_mul-cpi c = omega (arith, allowed-range _ (batch-yes _ _ (sym c.ask_batch.ensures ∙ c.in-Yes.is)).0)
+overflow_mul-cpi c = omega (arith, allowed-range _ (batch-yes _ _ (sym c.ask_batch.ensures ∙ c.in-Ok.is)).0)
 
 pub overflow_sub-cpi : goal.overflow_sub-cpi
-overflow_sub-cpi c = omega (arith, allowed-range _ (batch-yes _ _ (sym c.ask_batch.ensures ∙ c.in-Yes.is)).0)
+overflow_sub-cpi c = omega (arith, allowed-range _ (batch-yes _ _ (sym c.ask_batch.ensures ∙ c.in-Ok.is)).0)
 
 pub returns-then-not-public_fits : goal.returns-then-not-public_fits
 unfolding public_asked
 returns-then-not-public_fits c = search asking
 
-pub returns-in-No : goal.returns-in-No
+pub returns-in-Err : goal.returns-in-Err
 unfolding public_asked
-returns-in-No c = search asking
+returns-in-Err c = search asking
 
 pub returns-else-not-public_fits : goal.returns-else-not-public_fits
 unfolding public_asked
