@@ -2,7 +2,7 @@
 -- makes and its contracts cite. Laws/MetEach proves every test true exactly when the condition of its number holds, Laws/MetFirst that
 -- all are met exactly when the record of the conditions holds, Laws/MetRead that these are the words that the code reads.
 -- Assumes nothing.
-use Rattle.std.specs.Prelude.{ℕ, ◌+◌, ◌-◌, ◌*◌, ◌/◌, ◌%◌, ◌^◌, Bool, true, false, cond, not, ◌&&◌, ◌||◌, List, [], ◌∷◌, ◌==◌, nat_eq, nat_lt, slice_index_or, Err, None, Ok, Option}
+use Rattle.std.specs.Prelude.{ℕ, ◌+◌, ◌-◌, ◌*◌, ◌/◌, ◌%◌, ◌^◌, Bool, true, false, cond, not, ◌&&◌, ◌||◌, List, [], ◌∷◌, ◌==◌, nat_eq, nat_lt, slice_index_or, Err, None, Ok, Option, Some}
 use Rattle.base.specs.Bits.{digit, ◌⊻◌, word, bit_at}
 use Rattle.base.specs.Tests.{first_from}
 use Rattle.field.specs.declared.Gf128.{Gf128}
@@ -150,20 +150,21 @@ abbrev pub numbered : List Bool → ℕ → Bool
 numbered met k = slice_index_or met (k - 1) false
 
 -- the first that is not met
-abbrev pub named : ℕ → Answer (Option ℕ)
-named k = cond (nat_lt k 11) (unmet k) (Ok None)
+abbrev pub named : ℕ → Option ℕ
+named k = cond (nat_lt k 11) (Some k) None
 
-unfoldable pub first_false : List Bool → Answer (Option ℕ)
+unfoldable pub first_false : List Bool → Option ℕ
 first_false met = named (first_from (λ k. not (numbered met k)) 1 10)
 
 -- of a cycle: of its bits, and of the public element one_col + 1
-unfoldable pub first_unmet : (ℕ → Bool) → Gf128 → Answer (Option ℕ)
+unfoldable pub first_unmet : (ℕ → Bool) → Gf128 → Option ℕ
 first_unmet b output = first_false (conditions (words_of b) (flags_of b) output)
 
 -- ---- as it is called: questions 1, 2, 11, 12 and 15
 
 abbrev pub if_inside : ℕ → List ℕ → ℕ → Answer (Option ℕ)
-if_inside cpi batch d = cond (nat_lt d cpi) (first_unmet (bits_of cpi batch d) (cycle_of cpi batch d (ONE-COL + 1))) (Err (no CycleRange 0))
+if_inside cpi batch d =
+    cond (nat_lt d cpi) (Ok (first_unmet (bits_of cpi batch d) (cycle_of cpi batch d (ONE-COL + 1)))) (Err (no CycleRange 0))
 
 unfoldable pub step_answer : ℕ → List ℕ → ℕ → Answer (Option ℕ)
 step_answer cpi batch d = if_yes Err (fill_asked cpi batch) (if_inside cpi batch d)

@@ -17,14 +17,6 @@ use layout::columns::{ONE_COL, RD, SHIFT_OUT};
 use layout::{Question, Refusal};
 use strict::Known;
 
-// Every condition is met, or the number of the first that is not.
-#[derive(Clone, Copy)]
-pub enum StepAnswer {
-    Meets,
-    Unmet(usize),
-    Refused(Refusal),
-}
-
 // The words that the conditions read; the opcode has seven bits.
 #[derive(Clone, Copy)]
 pub struct StepWords {
@@ -156,17 +148,17 @@ fn conditions(w: StepWords, f: StepFlags, output: Gf128) -> [bool; 10]
     ]
 }
 
-fn first_false(met: [bool; 10]) -> Result<Option<usize>, Refusal>
+fn first_false(met: [bool; 10]) -> Option<usize>
     ensures { result ≡ first_false met }
 {
     let mut k: usize = 1;
     while k < 11 {
         if !met[k - 1] {
-            return Ok(Some(k));
+            return Some(k);
         }
         k = k + 1;
     }
-    Ok(None)
+    None
 }
 
 // From the words that the derived columns depend on, and two that they do not.
@@ -223,7 +215,7 @@ pub fn meets_all(which: Known, w: StepWords, flags: u64, output: Gf128) -> bool
 }
 
 // Of a cycle of the batch. The public element behind the one column is the same for every cycle.
-fn unmet_in(batch: &[u64], cpi: usize, cycle: usize) -> Result<Option<usize>, Refusal>
+fn unmet_in(batch: &[u64], cpi: usize, cycle: usize) -> Option<usize>
     requires { Cycle cpi cycle batch.now }
     ensures { result ≡ first_unmet (bits_of cpi batch.now cycle) (cycle_of cpi batch.now cycle (ONE-COL + 1)) }
 {
@@ -238,13 +230,9 @@ fn unmet_in(batch: &[u64], cpi: usize, cycle: usize) -> Result<Option<usize>, Re
 pub fn first_unmet(cpi: usize, batch: &[u64], cycle: usize) -> Result<Option<usize>, Refusal>
     ensures { result ≡ step_answer cpi batch.now cycle }
 {
-    match ask(cpi, batch) {
-        Err(r) => Err(r),
-        Ok(()) => {
-            if cpi <= cycle {
-                return Err(Question::CycleRange.refused());
-            }
-            unmet_in(batch, cpi, cycle)
-        }
+    ask(cpi, batch)?;
+    if cpi <= cycle {
+        return Err(Question::CycleRange.refused());
     }
+    Ok(unmet_in(batch, cpi, cycle))
 }

@@ -61,7 +61,10 @@ fn ask_columns(cpi: usize, batch: &[u64]) -> Result<(), Refusal>
 {
     let place = first_faulty(cpi, batch);
     if place < 2048 * cpi {
-        return Err(Refusal { question: Question::GivenBits, place });
+        return Err(Refusal {
+            question: Question::GivenBits,
+            place,
+        });
     }
     if !element(batch, 2048 * cpi).same(Gf128::one()) {
         return Err(Question::OneColumn.refused());
@@ -73,10 +76,8 @@ fn ask_columns(cpi: usize, batch: &[u64]) -> Result<(), Refusal>
 pub fn ask(cpi: usize, batch: &[u64]) -> Result<(), Refusal>
     ensures { result ≡ fill_asked cpi batch.now }
 {
-    match layout::ask_batch(cpi, batch.len()) {
-        Err(r) => Err(r),
-        Ok(()) => ask_columns(cpi, batch),
-    }
+    layout::ask_batch(cpi, batch.len())?;
+    ask_columns(cpi, batch)
 }
 
 // The carries and the copies.
@@ -134,12 +135,7 @@ fn fill_cycles(cpi: usize, batch: &mut [u64])
 pub fn fill(cpi: usize, batch: &mut [u64]) -> Result<(), Refusal>
     ensures { ◌≡◌ {A = Called} (record { answer = result; batch = batch.new }) (called cpi batch.old) }
 {
-    let asked = ask(cpi, batch);
-    match asked {
-        Err(r) => Err(r),
-        Ok(()) => {
-            fill_cycles(cpi, batch);
-            Ok(())
-        }
-    }
+    ask(cpi, batch)?;
+    fill_cycles(cpi, batch);
+    Ok(())
 }

@@ -1,7 +1,7 @@
 -- All tests are true exactly when the record of the conditions holds. The answer says that all are met exactly then, and the condition
 -- that it names is the first that is not met.
 -- Assumes nothing.
-use Rattle.std.specs.Prelude.{◌≡◌, ℕ, zero, suc, ◌+◌, ◌-◌, ◌<◌, ◌≤◌, Bool, true, false, cond, not, ◌&&◌, ◌↔◌, List, [], ◌∷◌, length, get_or, nat_lt, slice_index_or, Err, None, Ok}
+use Rattle.std.specs.Prelude.{◌≡◌, ℕ, zero, suc, ◌+◌, ◌-◌, ◌<◌, ◌≤◌, Bool, true, false, cond, not, ◌&&◌, ◌↔◌, List, [], ◌∷◌, length, get_or, nat_lt, slice_index_or, Err, None, Ok, Some, Option}
 use Rattle.std.proofs.Math.Path.{refl, sym, ap}
 use Rattle.std.proofs.Common.{ap₂, ◌∙◌, not-suc-le-zero, le_of_suc-le-suc}
 use Rattle.std.proofs.Math.Logic.Iff.{trans as iff_trans}
@@ -13,7 +13,7 @@ use Rattle.base.specs.Laws.Tests.{passed, both, both_so}
 use Rattle.base.specs.Laws.First.{first_passes, first-least, first-from}
 use Rattle.field.specs.declared.Gf128.{Gf128}
 use Rattle.layout.specs.Columns.{ONE-COL, IS-LOAD, IS-STORE}
-use Rattle.layout.specs.Questions.{no, if_yes}
+use Rattle.layout.specs.Questions.{no, if_yes, Answer}
 use Rattle.strict.specs.declared.Known.{Known}
 use Rattle.strict.specs.declared.Known.TheVariants.{House, Strict}
 use Rattle.verdict.specs.Row.{cycle_of, bits_of}
@@ -22,7 +22,7 @@ use Rattle.step.specs.Strict.{widths, ConditionsOf}
 use Rattle.step.specs.Fill.{fill_asked}
 use Rattle.step.proofs.Laws.Strict.{not-clause}
 use Rattle.step.proofs.Laws.Widths.{width-clauses}
-use Rattle.filler.specs.Met.{words_of, flags_of, conditions, conditions_of, all_true, named, first_false, first_unmet, if_inside, step_answer, unmet}
+use Rattle.filler.specs.Met.{words_of, flags_of, conditions, conditions_of, all_true, named, first_false, first_unmet, if_inside, step_answer}
 use Rattle.filler.specs.Laws.MetEach as each
 use Rattle.layout.specs.declared.questions.Question.TheVariants.{CycleRange}
 
@@ -38,17 +38,17 @@ at_all [] h = refl
 at_all (t ∷ ts) h = ap₂ ◌&&◌ (h 0 (omega arith)) (at_all ts (λ k l. h (suc k) (omega arith)))
 
 -- which number an answer names
-none_named : (n : ℕ) → named n ≡ Ok None → 10 < n
+none_named : (n : ℕ) → named n ≡ None → 10 < n
 none_named n e = go (nat_lt n 11) refl e
   where
-    go : (t : Bool) → nat_lt n 11 ≡ t → cond t (unmet n) (Ok None) ≡ Ok None → 10 < n
+    go : (t : Bool) → nat_lt n 11 ≡ t → cond t (Some n) None ≡ None → 10 < n
     go true q f = let z : ◌≡◌ {A = ℕ} 0 1 = cc in absurd (omega arith)
     go false q f = ltb-false n 11 q
 
-one-named : (n k : ℕ) → named n ≡ unmet k → (n ≡ k) × (n ≤ 10)
+one-named : (n k : ℕ) → named n ≡ Some k → (n ≡ k) × (n ≤ 10)
 one-named n k e = go (nat_lt n 11) refl e
   where
-    go : (t : Bool) → nat_lt n 11 ≡ t → cond t (unmet n) (Ok None) ≡ unmet k → (n ≡ k) × (n ≤ 10)
+    go : (t : Bool) → nat_lt n 11 ≡ t → cond t (Some n) None ≡ Some k → (n ≡ k) × (n ≤ 10)
     go true q f = (cc, omega (arith, ltb-true n 11 q))
     go false q f = let z : ◌≡◌ {A = ℕ} 0 1 = cc in absurd (omega arith)
 
@@ -71,7 +71,7 @@ module _ (b : ℕ → Bool) (output : Gf128) where
   met-before : (i : ℕ) → 1 ≤ i → i < first → met i ≡ true
   met-before i l m = not-false (met i) (first-least fails 10 1 i l m)
 
-  pub names-first : (k : ℕ) → first_unmet b output ≡ unmet k → FirstUnmet k
+  pub names-first : (k : ℕ) → first_unmet b output ≡ Some k → FirstUnmet k
   unfolding first_unmet first_false
   names-first k e =
       let n = one-named first k e in
@@ -83,7 +83,7 @@ module _ (b : ℕ → Bool) (output : Gf128) where
         before = λ i l m. (each.each-met b output i).0 (met-before i l (omega (arith, n.0)));
       }
 
-  all-met : first_unmet b output ≡ Ok None → (i : ℕ) → 1 ≤ i → i ≤ 10 → met i ≡ true
+  all-met : first_unmet b output ≡ None → (i : ℕ) → 1 ≤ i → i ≤ 10 → met i ≡ true
   unfolding first_unmet first_false
   all-met e i l m = met-before i l (omega (arith, none_named first e))
 
@@ -134,11 +134,11 @@ module _ (b : ℕ → Bool) (output : Gf128) where
       )
 
   -- where all are true, the search names none
-  true-meets : all_true tests ≡ true → named first ≡ Ok None
+  true-meets : all_true tests ≡ true → named first ≡ None
   unfolding conditions
   true-meets e = go (nat_lt first 11) refl
     where
-      go : (t : Bool) → nat_lt first 11 ≡ t → cond t (unmet first) (Ok None) ≡ Ok None
+      go : (t : Bool) → nat_lt first 11 ≡ t → cond t (Some first) None ≡ None
       go true q =
           let l = ltb-true first 11 q in
           absurd
@@ -147,7 +147,7 @@ module _ (b : ℕ → Bool) (output : Gf128) where
       go false q = refl
 
   -- it says that all are met exactly when the record holds
-  pub meets-all : (first_unmet b output ≡ Ok None) ↔ Step b output
+  pub meets-all : (first_unmet b output ≡ None) ↔ Step b output
   unfolding first_unmet first_false conditions
   meets-all =
       iff_trans (
@@ -160,13 +160,16 @@ module _ (b : ℕ → Bool) (output : Gf128) where
 -- ---- as it is called, where the questions were answered with yes
 
 module _ (cpi : ℕ) (batch : List ℕ) (d : ℕ) (yes : fill_asked cpi batch ≡ Ok tt) (inside : d < cpi) where
-  pub answer-is : step_answer cpi batch d ≡ first_unmet (bits_of cpi batch d) (cycle_of cpi batch d (ONE-COL + 1))
+  pub answer-is : step_answer cpi batch d ≡ Ok (first_unmet (bits_of cpi batch d) (cycle_of cpi batch d (ONE-COL + 1)))
   unfolding step_answer
   answer-is = ap (λ q. if_yes Err q (if_inside cpi batch d)) yes ∙ sym (passed _ _ (Err (no CycleRange 0)) (lt-ltb d cpi inside))
 
+  answered : {v w : Option ℕ} → ◌≡◌ {A = Answer (Option ℕ)} (Ok v) (Ok w) → v ≡ w
+  answered e = cc e
+
   pub answer-meets : (step_answer cpi batch d ≡ Ok None) ↔ Step (bits_of cpi batch d) (cycle_of cpi batch d (ONE-COL + 1))
   answer-meets =
-      iff_trans (λ e. sym answer-is ∙ e, λ e. answer-is ∙ e) (meets-all (bits_of cpi batch d) (cycle_of cpi batch d (ONE-COL + 1)))
+      iff_trans (λ e. answered (sym answer-is ∙ e), λ e. answer-is ∙ ap Ok e) (meets-all (bits_of cpi batch d) (cycle_of cpi batch d (ONE-COL + 1)))
 
-  pub answer-names : (k : ℕ) → step_answer cpi batch d ≡ unmet k → FirstUnmet (bits_of cpi batch d) (cycle_of cpi batch d (ONE-COL + 1)) k
-  answer-names k e = names-first (bits_of cpi batch d) (cycle_of cpi batch d (ONE-COL + 1)) k (sym answer-is ∙ e)
+  pub answer-names : (k : ℕ) → step_answer cpi batch d ≡ Ok (Some k) → FirstUnmet (bits_of cpi batch d) (cycle_of cpi batch d (ONE-COL + 1)) k
+  answer-names k e = names-first (bits_of cpi batch d) (cycle_of cpi batch d (ONE-COL + 1)) k (answered (sym answer-is ∙ e))

@@ -1,6 +1,8 @@
 -- Filling and checking, of given batches: of every size one that is accepted, and one that fails by what stands in any one cycle; rows
 -- whose verdict is known; and calls that are refused.
 -- Assumes nothing.
+use Rattle.layout.specs.declared.questions.Question.{Question}
+use Rattle.layout.specs.declared.questions.Question.TheVariants.{BatchSize, BatchLength, GivenBits, OneColumn}
 use Rattle.std.specs.Prelude.{◌≡◌, refl, Bool, true, false, List, [], ◌∷◌, ℕ, ◌+◌, ◌*◌, ◌<◌, replicate, Err, Ok}
 use Rattle.std.proofs.Common.{sym, ap, ◌∙◌}
 use Rattle.field.specs.Gf.{of_words, is_bit}
@@ -29,8 +31,8 @@ use Rattle.judge.specs.Laws.Examples.{batch-examples}
 use Rattle.judge.proofs.Laws.FillCheck.{is-judged, fill-promised}
 
 -- a batch is refused with a number and a place, and stays as it came
-abbrev pub RefusedAs : Known → ℕ → ℕ → ℕ → List ℕ → Type 0
-RefusedAs k cpi number place batch = fill_checked k cpi batch ≡ record { answer = Err (no number place); batch = batch }
+abbrev pub RefusedAs : Known → ℕ → Question → ℕ → List ℕ → Type 0
+RefusedAs k cpi question place batch = fill_checked k cpi batch ≡ record { answer = Err (no question place); batch = batch }
 
 pub record OfSize (k : Known) (cpi : ℕ) : Type 0 where
   pub accepted : fill_checked k cpi (idle cpi) ≡ record { answer = Ok (Accepted (every_row_of k cpi)); batch = filled cpi (idle cpi) }
@@ -38,13 +40,13 @@ pub record OfSize (k : Known) (cpi : ℕ) : Type 0 where
   pub failed : (d : ℕ) → d < cpi → fails (fill_checked k cpi (batch_of cpi (shifts_in d))).answer ≡ true
   -- questions 11 and 12: a given column that is no bit, whatever bits stand elsewhere; the one column 0
   pub no-bit : (b : ℕ → ℕ → Bool) (c d l h : ℕ) → c < 2048 → derived c ≡ false → d < cpi → is_bit (of_words l h) ≡ false
-      → RefusedAs k cpi 11 (c * cpi + d) (replaced (batch_of cpi b) (c * cpi + d) l h)
-  pub no_one : RefusedAs k cpi 12 0 (replicate (batch_words cpi) 0)
+      → RefusedAs k cpi GivenBits (c * cpi + d) (replaced (batch_of cpi b) (c * cpi + d) l h)
+  pub no_one : RefusedAs k cpi OneColumn 0 (replicate (batch_words cpi) 0)
 
 -- questions 1 and 2
 pub record Refusals (k : Known) : Type 0 where
-  pub no_size : RefusedAs k 3 1 0 []
-  pub no_words : RefusedAs k 2 2 0 (7 ∷ [])
+  pub no_size : RefusedAs k 3 BatchSize 0 []
+  pub no_words : RefusedAs k 2 BatchLength 0 (7 ∷ [])
 
 -- what the filler's call comes to
 as_called : (k : Known) (cpi : ℕ) (batch : List ℕ) {c : Called} → called cpi batch ≡ c

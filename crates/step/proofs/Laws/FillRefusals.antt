@@ -1,5 +1,7 @@
 -- The filler's refusals 11 and 12, of given batches of every size: the number, the place, and the batch as it came.
 -- Assumes nothing.
+use Rattle.layout.specs.declared.questions.Question.{Question}
+use Rattle.layout.specs.declared.questions.Question.TheVariants.{GivenBits, OneColumn}
 use Rattle.std.specs.Prelude.{◌≡◌, Bool, true, false, not, ◌&&◌, List, ℕ, ◌+◌, ◌*◌, ◌<◌, eqb, leb, replicate, Err}
 use Rattle.std.proofs.Math.Path.{sym, ap}
 use Rattle.std.proofs.Common.{ap₂, ◌∙◌, arith}
@@ -29,15 +31,15 @@ use Rattle.step.proofs.Laws.Clauses.{replaced, replaced-length, replaced-here, r
 use Rattle.layout.specs.declared.questions.Question.TheVariants.{GivenBits, OneColumn}
 
 -- a call that is refused leaves the batch
-abbrev pub RefusedWith : ℕ → ℕ → ℕ → List ℕ → Type 0
+abbrev pub RefusedWith : Question → ℕ → ℕ → List ℕ → Type 0
 RefusedWith k place cpi batch = called cpi batch ≡ record { answer = Err (no k place); batch = batch }
 
 pub record Refuses (cpi : ℕ) : Type 0 where
   -- a given column c of cycle d that is no bit, whatever bits stand elsewhere: 11, and the place is its batch column
   pub no-bit : (b : ℕ → ℕ → Bool) (c d l h : ℕ) → c < 2048 → derived c ≡ false → d < cpi → is_bit (of_words l h) ≡ false
-      → RefusedWith 11 (c * cpi + d) cpi (replaced (batch_of cpi b) (c * cpi + d) l h)
+      → RefusedWith GivenBits (c * cpi + d) cpi (replaced (batch_of cpi b) (c * cpi + d) l h)
   -- the one column is 0: 12
-  pub no_one : RefusedWith 12 0 cpi (replicate (batch_words cpi) 0)
+  pub no_one : RefusedWith OneColumn 0 cpi (replicate (batch_words cpi) 0)
 
 module _ (cpi : ℕ) (size : allowed cpi ≡ true) where
   some : 0 < cpi
@@ -73,7 +75,7 @@ module _ (cpi : ℕ) (size : allowed cpi ≡ true) where
         (ap (λ (p : ℕ). Err (no GivenBits p)) (sym first-is) ∙ refused _ _ _ (ap (leb (2048 * cpi)) first-is ∙ lt-leb _ _ inside)
         ∙ if_yes_lem Err _ (yes-batch cpi _ size (replaced-length (batch_of cpi b) (c * cpi + d) l h ∙ batch-length cpi some b)))
 
-    no-bit-refused : RefusedWith 11 (c * cpi + d) cpi w
+    no-bit-refused : RefusedWith GivenBits (c * cpi + d) cpi w
     unfolding called
     no-bit-refused = ap (λ (a : Asked). after a (filled cpi w) w) asked-11
 

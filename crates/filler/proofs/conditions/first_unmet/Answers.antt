@@ -17,17 +17,17 @@ refused-requires c = search rules
 
 pub returns-then-cpi-cycle : goal.returns-then-cpi-cycle
 unfolding step_answer
-returns-then-cpi-cycle c = search asking
+returns-then-cpi-cycle c = search (asking, c.in_ok-ask.was)
 
 pub unmet_in-requires : goal.unmet_in-requires
 unmet_in-requires c =
-    let p = all-passed _ _ (sym c.ask.ensures ∙ c.in-Ok.is) in
+    let p = all-passed _ _ (sym c.ask.ensures ∙ c.in_ok-ask.was) in
     record { few = (allowed-range _ p.size).1; inside = c.if-cpi-cycle.false; words = p.words }
 
-pub returns-in-Err : goal.returns-in-Err
+pub returns-in_err-ask : goal.returns-in_err-ask
 unfolding step_answer
-returns-in-Err c = search asking
+returns-in_err-ask c = search (rules, asking, c.in_err-ask.was)
 
-pub returns-else-cpi-cycle : goal.returns-else-cpi-cycle
+pub returns : goal.returns
 unfolding step_answer
-returns-else-cpi-cycle c = search asking
+returns c = search (asking, c.in_ok-ask.was)

@@ -10,12 +10,12 @@ unfolding fill_asked
 ask_batch-requires c = search rules
 
 pub ask_columns-requires : goal.ask_columns-requires
-ask_columns-requires c = batch-yes _ _ (sym c.ask_batch.ensures ∙ c.in-Ok.is)
+ask_columns-requires c = batch-yes _ _ (sym c.ask_batch.ensures ∙ c.in_ok-ask_batch.was)
 
-pub returns-in-Err : goal.returns-in-Err
+pub returns-in_err-ask_batch : goal.returns-in_err-ask_batch
 unfolding fill_asked
-returns-in-Err c = search asking
+returns-in_err-ask_batch c = search (rules, asking, c.in_err-ask_batch.was)
 
-pub returns-in-Ok : goal.returns-in-Ok
+pub returns : goal.returns
 unfolding fill_asked
-returns-in-Ok c = search asking
+returns c = search (asking, c.in_ok-ask_batch.was)
