@@ -56,13 +56,10 @@ pub record NamedCalled : Type 0 where
   pub answer : Answer Bool
   pub out : List ℕ
 
-abbrev pub answer_of : Bool → Answer Bool
-answer_of bits = cond bits (Ok true) (Ok false)
-
 abbrev pub not_packed : List ℕ → Refusal → NamedCalled
 not_packed out r = record { answer = Err r; out = out }
 
 unfoldable pub named_called : ℕ → List ℕ → List ℕ → NamedCalled
 named_called cpi batch out =
     if_yes (not_packed out) (pack_asked cpi (length batch) (length out))
-    (record { answer = answer_of (named_bits cpi batch); out = packed_named cpi batch out })
+    (record { answer = Ok (named_bits cpi batch); out = packed_named cpi batch out })

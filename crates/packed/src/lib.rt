@@ -10,19 +10,11 @@ pub mod sums;
 mod turn;
 mod unpack;
 
-ghost use Rattle.std.specs.Prelude.{◌≡◌, ◌<◌, length, ◌==◌};
-ghost use Rattle.packed.specs.Packed.{answer_of, pack_asked, NamedCalled, named_called};
+ghost use Rattle.std.specs.Prelude.{◌≡◌, ◌<◌, length};
+ghost use Rattle.packed.specs.Packed.{pack_asked, NamedCalled, named_called};
 ghost use Rattle.packed.specs.Named.{Named, NamedIn};
 
 use layout::{Question, Refusal};
-
-// Whether the columns that were packed are bits.
-#[derive(Clone, Copy)]
-pub enum Packing {
-    Bits,
-    NotBits,
-    Refused(Refusal),
-}
 
 // Words 0 to 14, 16 and 17. The answer is 0 exactly where their columns are bits.
 fn pack_one(batch: &[u64], out: &mut [u64]) -> u64
@@ -75,47 +67,30 @@ fn pack(cpi: usize, batch: &[u64], out: &mut [u64]) -> u64
     pack_large(cpi, batch, out)
 }
 
-fn answer(bad: u64) -> Result<bool, Refusal>
-    ensures { result ≡ answer_of (bad == 0) }
-{
-    if bad == 0 {
-        Ok(true)
-    } else {
-        Ok(false)
-    }
-}
-
 // Questions 1, 2 and 18.
 fn ask(cpi: usize, words: usize, room: usize) -> Result<(), Refusal>
     ensures { result ≡ pack_asked cpi words room }
 {
-    match layout::ask_batch(cpi, words) {
-        Err(r) => Err(r),
-        Ok(()) => {
-            if room != 32 * cpi {
-                return Err(Question::PackedLength.refused());
-            }
-            Ok(())
-        }
+    layout::ask_batch(cpi, words)?;
+    if room != 32 * cpi {
+        return Err(Question::PackedLength.refused());
     }
+    Ok(())
 }
 
-// The words of every cycle that hold columns which rows name, in cycle order: questions 1, 2 and 18.
+// The words of every cycle that hold columns which rows name, in cycle order: questions 1, 2 and 18. The answer is whether these columns
+// are bits.
 pub fn pack_named(cpi: usize, batch: &[u64], out: &mut [u64]) -> Result<bool, Refusal>
     ensures { ◌≡◌ {A = NamedCalled} (record { answer = result; out = out.new }) (named_called cpi batch.now out.old) }
 {
-    match ask(cpi, batch.len(), out.len()) {
-        Err(r) => Err(r),
-        Ok(()) => answer(pack(cpi, batch, out)),
-    }
+    ask(cpi, batch.len(), out.len())?;
+    Ok(pack(cpi, batch, out) == 0)
 }
 
 // The same of a batch of one cycle, whose shape stands apart: who has but one cycle need not carry the others.
 pub fn pack_row(batch: &[u64], out: &mut [u64]) -> Result<bool, Refusal>
     ensures { ◌≡◌ {A = NamedCalled} (record { answer = result; out = out.new }) (named_called 1 batch.now out.old) }
 {
-    match ask(1, batch.len(), out.len()) {
-        Err(r) => Err(r),
-        Ok(()) => answer(pack_one(batch, out)),
-    }
+    ask(1, batch.len(), out.len())?;
+    Ok(pack_one(batch, out) == 0)
 }

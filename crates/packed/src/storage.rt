@@ -58,15 +58,11 @@ fn store(order: Order, cpi: usize, batch: &[u64], out: &mut [u64]) -> Result<(),
     ensures { ◌≡◌ {A = Called} (record { answer = result; batch = out.new })
         (store_called order cpi batch.now out.old) }
 {
-    match ask(cpi, batch.len(), out.len()) {
-        Err(r) => Err(r),
-        Ok(()) => {
-            if !hand(order, cpi, batch, out) {
-                return Err(Question::LowerBits.refused());
-            }
-            Ok(())
-        }
+    ask(cpi, batch.len(), out.len())?;
+    if !hand(order, cpi, batch, out) {
+        return Err(Question::LowerBits.refused());
     }
+    Ok(())
 }
 
 // A batch in batch order: bit j of word k is batch column 64 k + j.
@@ -90,13 +86,9 @@ pub fn unpack(cpi: usize, words: &[u64], batch: &mut [u64]) -> Result<(), Refusa
     ensures { ◌≡◌ {A = Called} (record { answer = result; batch = batch.new })
         (unpack_called cpi words.now batch.old) }
 {
-    match ask(cpi, batch.len(), words.len()) {
-        Err(r) => Err(r),
-        Ok(()) => {
-            lay_words(words, batch);
-            Ok(())
-        }
-    }
+    ask(cpi, batch.len(), words.len())?;
+    lay_words(words, batch);
+    Ok(())
 }
 
 // Questions 1 and 18, of the words that are read and of those that are written.
@@ -119,13 +111,9 @@ fn rearrange(order: Order, cpi: usize, words: &[u64], out: &mut [u64]) -> Result
     ensures { ◌≡◌ {A = Called} (record { answer = result; batch = out.new })
         (rearrange_called order cpi words.now out.old) }
 {
-    match ask_order(cpi, words.len(), out.len()) {
-        Err(r) => Err(r),
-        Ok(()) => {
-            put_into(order, cpi, words, out);
-            Ok(())
-        }
-    }
+    ask_order(cpi, words.len(), out.len())?;
+    put_into(order, cpi, words, out);
+    Ok(())
 }
 
 // From batch order into cycle order.

@@ -30,7 +30,7 @@ use Rattle.verdict.specs.declared.Verdict.TheVariants.{Accepted}
 use Rattle.verdict.specs.Row.{element_at}
 use Rattle.verdict.specs.Counts.{every_row_of}
 use Rattle.verdict.specs.Check.{Checked, after, asked, judged, checked, known_checked}
-use Rattle.packed.specs.Packed.{NamedCalled, answer_of, named_called, packed_at, packed_named, bits_from, named_bits}
+use Rattle.packed.specs.Packed.{NamedCalled, named_called, packed_at, packed_named, bits_from, named_bits}
 use Rattle.packed.specs.Named.{NamedIn}
 use Rattle.packed.specs.Laws.Named.{called_is, bits_each}
 use Rattle.packed.specs.Laws.Seen.{bit-words-are}
@@ -181,7 +181,7 @@ module _ (k : Known) (cpi : ℕ) (batch out : List ℕ) (h : NamedIn cpi batch o
   pub not-of-bits : {a : Answer Bool} {after : List ℕ} → Packs a after → (a ≡ Ok true → ⊥) → false ≡ short_bits k cpi batch out
   unfolding short_bits
   not-of-bits e f =
-      ap (λ (t : Bool). t && cycles) (sym (no_true (named_bits cpi batch) (λ q. f ((called_is cpi batch out h e).0 ∙ ap answer_of q))))
+      ap (λ (t : Bool). t && cycles) (sym (no_true (named_bits cpi batch) (λ q. f ((called_is cpi batch out h e).0 ∙ ap Ok q))))
 
 pub not-bits : {a : Answer Bool} → a ≡ Ok false → a ≡ Ok true → ⊥
 not-bits e f = let z : ◌≡◌ {A = ℕ} 0 1 = cc in omega arith

@@ -6,12 +6,8 @@ use Rattle.layout.specs.Laws.Sizes.{allowed-range}
 use Rattle.packed.specs.Packed.{pack_asked}
 use Rattle.packed.proofs.ask.Goals as goal
 
-pub ask_batch-requires : goal.ask_batch-requires
-unfolding pack_asked
-ask_batch-requires c = search rules
-
 pub overflow_mul-cpi : goal.overflow_mul-cpi
-overflow_mul-cpi c = omega (arith, allowed-range _ (batch-yes _ _ (sym c.ask_batch.ensures ∙ c.in-Ok.is)).0)
+overflow_mul-cpi c = omega (arith, allowed-range _ (batch-yes _ _ (sym c.ask_batch.ensures ∙ c.in_ok-ask_batch.was)).0)
 
 pub refused-requires : goal.refused-requires
 unfolding pack_asked
@@ -19,12 +15,12 @@ refused-requires c = search rules
 
 pub returns-then-room-cpi : goal.returns-then-room-cpi
 unfolding pack_asked
-returns-then-room-cpi c = search asking
+returns-then-room-cpi c = search (asking, c.in_ok-ask_batch.was)
 
-pub returns-in-Err : goal.returns-in-Err
+pub returns-in_err-ask_batch : goal.returns-in_err-ask_batch
 unfolding pack_asked
-returns-in-Err c = search asking
+returns-in_err-ask_batch c = search (rules, asking, c.in_err-ask_batch.was)
 
-pub returns-else-room-cpi : goal.returns-else-room-cpi
+pub returns : goal.returns
 unfolding pack_asked
-returns-else-room-cpi c = search asking
+returns c = search (asking, c.in_ok-ask_batch.was)

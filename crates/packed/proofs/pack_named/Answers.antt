@@ -7,22 +7,14 @@ use Rattle.packed.specs.Packed.{named_called}
 use Rattle.packed.specs.Laws.Named.{asked-yes-in, called-named}
 use Rattle.packed.proofs.pack_named.Goals as goal
 
-pub ask-requires : goal.ask-requires
-unfolding named_called
-ask-requires c = search rules
-
 pub pack-requires : goal.pack-requires
 unfolding named_called
-pack-requires c = search (asked-yes-in, told)
+pack-requires c = search (asked-yes-in, told, c.in_ok-ask.was)
 
-pub answer-requires : goal.answer-requires
+pub returns-in_err-ask : goal.returns-in_err-ask
 unfolding named_called
-answer-requires c = search rules
+returns-in_err-ask c = search (rules, asking, c.in_err-ask.was)
 
-pub returns-in-Err : goal.returns-in-Err
+pub returns : goal.returns
 unfolding named_called
-returns-in-Err c = search asking
-
-pub returns-in-Ok : goal.returns-in-Ok
-unfolding named_called
-returns-in-Ok c = search (called-named, asked-yes-in, told)
+returns c = search (called-named, asked-yes-in, told, c.in_ok-ask.was)

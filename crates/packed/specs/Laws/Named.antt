@@ -18,7 +18,7 @@ use Rattle.layout.specs.Laws.Questions.{answered, both_yes, if_yes_lem, if_no, b
 use Rattle.layout.specs.Laws.Sizes.{allowed-range}
 use Rattle.layout.specs.Laws.Exponent.{shift-and-mask}
 use Rattle.verdict.specs.Row.{element_at}
-use Rattle.packed.specs.Packed.{pack_asked, NamedCalled, answer_of, not_packed, named_called, packed_word, named_word, packed_at, packed_named, bits_from, named_bits}
+use Rattle.packed.specs.Packed.{pack_asked, NamedCalled, not_packed, named_called, packed_word, named_word, packed_at, packed_named, bits_from, named_bits}
 use Rattle.packed.specs.Seen.{BitAt}
 use Rattle.packed.specs.Columns.{BitsIn}
 use Rattle.packed.specs.Ranges.{RangeIn, Ranged}
@@ -160,12 +160,12 @@ module _ (cpi : ℕ) (batch out : List ℕ) where
 
   -- any other room is refused with 18, and what is there stays
   pub room-refused : allowed cpi ≡ true → length batch ≡ batch_words cpi → (length out ≢ 32 * cpi)
-      → named_called cpi batch out ≡ record { answer = Err (record { number = 18; place = 0 }); out = out }
+      → named_called cpi batch out ≡ record { answer = Err (refusal PackedLength 0); out = out }
   unfolding named_called pack_asked
   room-refused size words other =
       let first = if_yes_lem Err (cond (length out == 32 * cpi) (Ok tt) (Err (refusal PackedLength 0))) (yes-batch cpi (length batch) size words) in
       let asked = refused _ (Ok tt) (Err (refusal PackedLength 0)) (ne_eqb (length out) (32 * cpi) other) ∙ first in
-      sym (if_no (not_packed out) (record { answer = answer_of (named_bits cpi batch); out = packed_named cpi batch out }) (sym asked))
+      sym (if_no (not_packed out) (record { answer = Ok (named_bits cpi batch); out = packed_named cpi batch out }) (sym asked))
 
   none-bad : {after : List ℕ} (bad : ℕ) → Named cpi batch out after bad → (bad == 0) ≡ named_bits cpi batch
   none-bad bad n = go (ℕ_discrete bad 0)
@@ -175,16 +175,16 @@ module _ (cpi : ℕ) (batch out : List ℕ) where
       go (no f) = ne_eqb bad 0 f ∙ sym (no_true (named_bits cpi batch) (λ e. f (n.bits.1 e)))
 
   pub called-named : NamedIn cpi batch out → {after : List ℕ} {bad : ℕ} → Named cpi batch out after bad → {p : Answer Bool}
-      → p ≡ answer_of (bad == 0) → ◌≡◌ {A = NamedCalled} (record { answer = p; out = after }) (named_called cpi batch out)
+      → p ≡ Ok (bad == 0) → ◌≡◌ {A = NamedCalled} (record { answer = p; out = after }) (named_called cpi batch out)
   unfolding named_called
   called-named h {after} {bad} n e =
-      ap₂ (λ (a : Answer Bool) (o : List ℕ). record { answer = a; out = o }) (e ∙ ap answer_of (none-bad bad n))
+      ap₂ (λ (a : Answer Bool) (o : List ℕ). record { answer = a; out = o }) (e ∙ ap Ok (none-bad bad n))
       (named-out cpi batch out after bad h.room n) ∙ if_yes_lem (not_packed out) _ (in-asked-yes h)
 
   -- what the call says, read back where the questions are passed
   pub called_is : NamedIn cpi batch out → {a : Answer Bool} {after : List ℕ}
       → ◌≡◌ {A = NamedCalled} (record { answer = a; out = after }) (named_called cpi batch out)
-      → (a ≡ answer_of (named_bits cpi batch)) × (after ≡ packed_named cpi batch out)
+      → (a ≡ Ok (named_bits cpi batch)) × (after ≡ packed_named cpi batch out)
   unfolding named_called
   called_is h e =
       let f = e ∙ sym (if_yes_lem (not_packed out) _ (in-asked-yes h)) in

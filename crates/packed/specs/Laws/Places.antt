@@ -14,7 +14,7 @@ use Rattle.layout.specs.declared.CycleColumn.{CycleColumn}
 
 -- the bit that an answer of the way back names in cycle order, and one of the mapping in batch order
 placed : Answer CycleColumn → ℕ
-placed (cycle_column c d) = 2048 * d + c
+placed (Ok p) = 2048 * p.cycle + p.column
 placed (Err _) = 0
 
 found : Answer ℕ → ℕ

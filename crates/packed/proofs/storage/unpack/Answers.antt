@@ -1,15 +1,16 @@
 -- `packed::storage::unpack` meets its contract: the questions in their order, and then the columns.
 -- Assumes nothing.
+use borrow.Author.Rules.{rules}
 use Rattle.std.proofs.Common.{sym, ◌∙◌}
 use Rattle.base.specs.Laws.WaysOut.{told}
 use Rattle.packed.proofs.Laws.Unpack.{unpack-in, unpack-none, unpack-yes}
 use Rattle.packed.proofs.storage.unpack.Goals as goal
 
 pub lay_words-requires : goal.lay_words-requires
-lay_words-requires c = unpack-in _ _ _ (sym c.ask.ensures ∙ c.in-Ok.is)
+lay_words-requires c = unpack-in _ _ _ (sym c.ask.ensures ∙ c.in_ok-ask.was)
 
-pub returns-in-Err : goal.returns-in-Err
-returns-in-Err c = search (unpack-none, told)
+pub returns-in_err-ask : goal.returns-in_err-ask
+returns-in_err-ask c = search (rules, unpack-none, told, c.in_err-ask.was)
 
-pub returns-in-Ok : goal.returns-in-Ok
-returns-in-Ok c = search (unpack-yes, told)
+pub returns : goal.returns
+returns c = search (unpack-yes, told, c.in_ok-ask.was)
