@@ -29,7 +29,7 @@ with_line_ends text = lined (length text / 60) text
 
 -- the terms of a row of a listing; of one that is not there, none
 abbrev pub sides_in : List ℕ → Answer Place → Sides
-sides_in listing (place_at start end) = sides_at listing start
+sides_in listing (Ok place) = sides_at listing place.start
 sides_in listing (Err r) = empty
 
 abbrev pub sides_of : List ℕ → Relation → ℕ → Sides

@@ -55,12 +55,12 @@ column_number (Ok c) = c
 column_number (Err r) = refused_at r
 
 abbrev pub cycle_column_number : ℕ → Answer CycleColumn → ℕ
-cycle_column_number part (cycle_column c d) = one_of part c d
+cycle_column_number part (Ok p) = one_of part p.column p.cycle
 cycle_column_number part (Err r) = refused_at r
 
 -- part 0 is the row of a cycle, any other the cycle
 abbrev pub cycle_row_number : ℕ → Answer CycleRow → ℕ
-cycle_row_number part (cycle_row d r) = one_of part r d
+cycle_row_number part (Ok p) = one_of part p.row p.cycle
 cycle_row_number part (Err r) = refused_at r
 
 -- 2^k is its exponent, zero is 255

@@ -61,10 +61,8 @@ fn ask_columns(cpi: usize, batch: &[u64]) -> Result<(), Refusal>
 {
     let place = first_faulty(cpi, batch);
     if place < 2048 * cpi {
-        return Err(Refusal {
-            question: Question::GivenBits,
-            place,
-        });
+        let question = Question::GivenBits;
+        return Err(Refusal { question, place });
     }
     if !element(batch, 2048 * cpi).same(Gf128::one()) {
         return Err(Question::OneColumn.refused());

@@ -69,7 +69,8 @@ abbrev pub joined_bits : ℕ → Answer (Option NotBit) → Answer (Option NotBi
 joined_bits cpi (Err r) w = Err r
 joined_bits cpi (Ok None) (Err r) = Err r
 joined_bits cpi (Ok None) (Ok None) = Ok None
-joined_bits cpi (Ok None) (not_bit y e f) = in_second cpi e f
-joined_bits cpi (not_bit x c d) (Err r) = Err r
-joined_bits cpi (not_bit x c d) (Ok None) = in_first cpi c d
-joined_bits cpi (not_bit x c d) (not_bit y e f) = cond (leb c e) (in_first cpi c d) (in_second cpi e f)
+joined_bits cpi (Ok None) (Ok (Some b)) = in_second cpi b.column b.cycle
+joined_bits cpi (Ok (Some a)) (Err r) = Err r
+joined_bits cpi (Ok (Some a)) (Ok None) = in_first cpi a.column a.cycle
+joined_bits cpi (Ok (Some a)) (Ok (Some b)) =
+    cond (leb a.column b.column) (in_first cpi a.column a.cycle) (in_second cpi b.column b.cycle)

@@ -69,17 +69,14 @@ fn ask_sizes(first_cpi: usize, first: usize, second_cpi: usize, second: usize, r
 fn ask(first_cpi: usize, first: &[u64], second_cpi: usize, second: &[u64], room: usize) -> Result<(), Refusal>
     ensures { result ≡ merge_asked first_cpi first.now second_cpi second.now room }
 {
-    match ask_sizes(first_cpi, first.len(), second_cpi, second.len(), room) {
-        Err(r) => Err(r),
-        Ok(()) => {
-            let end = 4096 * first_cpi;
-            let place = first_differing(first, second, 2048 * first_cpi, end);
-            if place < end {
-                return Err(Refusal { question: Question::PublicColumns, place });
-            }
-            Ok(())
-        }
+    ask_sizes(first_cpi, first.len(), second_cpi, second.len(), room)?;
+    let end = 4096 * first_cpi;
+    let place = first_differing(first, second, 2048 * first_cpi, end);
+    if place < end {
+        let question = Question::PublicColumns;
+        return Err(Refusal { question, place });
     }
+    Ok(())
 }
 
 // A column of every cycle: a run of the first's words, and behind it one of the second's.
@@ -151,12 +148,7 @@ pub fn merge(
     ensures { ◌≡◌ {A = Called} (record { answer = result; batch = batch.new })
         (merge_called first_cpi first.now second_cpi second.now batch.old) }
 {
-    let asked = ask(first_cpi, first, second_cpi, second, batch.len());
-    match asked {
-        Err(r) => Err(r),
-        Ok(()) => {
-            write_batch(first_cpi, first, second, batch);
-            Ok(())
-        }
-    }
+    ask(first_cpi, first, second_cpi, second, batch.len())?;
+    write_batch(first_cpi, first, second, batch);
+    Ok(())
 }

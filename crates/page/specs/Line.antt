@@ -8,7 +8,7 @@ use Rattle.verdict.specs.declared.Counts.{Counts}
 use Rattle.verdict.specs.declared.Verdict.{Verdict}
 use Rattle.verdict.specs.declared.Verdict.TheVariants.{Accepted, Failed}
 use Rattle.page.specs.Lines.{relation_text}
-use Rattle.layout.specs.Questions.{Answer}
+use Rattle.layout.specs.Questions.{number_of, Answer}
 
 abbrev pub failed_text : Relation → List ℕ
 failed_text relation = ascii "failed " ++ relation_text relation ++ ascii " row="
@@ -22,4 +22,4 @@ verdict_line (Failed relation row n) = failed_text relation ++ decimal row ++ as
 
 abbrev pub answer_line : Answer Verdict → List ℕ
 answer_line (Ok v) = verdict_line v
-answer_line (Err r) = ascii "refused " ++ decimal r.number ++ ascii "\n"
+answer_line (Err r) = ascii "refused " ++ decimal (number_of r.question) ++ ascii "\n"

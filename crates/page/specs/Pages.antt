@@ -37,7 +37,7 @@ sides_at listing start = (parse (drop (start + 1) listing)).before
 -- ---- how many bytes the pages of a row take: questions 6 to 10, 13
 
 abbrev pub bytes_at : List ℕ → Answer Place → Answer ℕ
-bytes_at listing (place_at start end) = Ok (page_bytes (line_count (sides_at listing start)))
+bytes_at listing (Ok place) = Ok (page_bytes (line_count (sides_at listing place.start)))
 bytes_at listing (Err r) = Err r
 
 unfoldable pub bytes_for : List ℕ → Relation → ℕ → Answer ℕ
@@ -60,9 +60,9 @@ not_laid there r = record { answer = Err r; page = there }
 module _ (cpi : ℕ) (listing batch : List ℕ) (rel : Relation) (n d : ℕ) (there : List ℕ) where
   -- 16: the bytes are exactly as many as the row's pages take; 15: the cycle is one of the batch
   unfoldable pub laid_at : Answer Place → Laid
-  laid_at (place_at start end) =
-      cond (eqb (length there) (page_bytes (line_count (sides_at listing start))))
-      (cond (ltb d cpi) (laid (pages (row_lines cpi batch d rel n (sides_at listing start))))
+  laid_at (Ok place) =
+      cond (eqb (length there) (page_bytes (line_count (sides_at listing place.start))))
+      (cond (ltb d cpi) (laid (pages (row_lines cpi batch d rel n (sides_at listing place.start))))
       (not_laid there (no CycleRange 0)))
       (not_laid there (no PageLength 0))
   laid_at (Err r) = not_laid there r

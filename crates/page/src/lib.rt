@@ -17,13 +17,6 @@ use circuit::Relation;
 use circuit::search::rows_a_cycle;
 use layout::{Question, Refusal};
 
-// How many bytes the pages of a row take.
-#[derive(Clone, Copy)]
-pub enum BytesAnswer {
-    Of(usize),
-    Refused(Refusal),
-}
-
 fn bytes_of_lines(lines: usize) -> usize
     requires { lines ≤ 16384 }
     ensures { result ≡ page_bytes lines }
@@ -35,10 +28,8 @@ fn bytes_of_lines(lines: usize) -> usize
 pub fn page_bytes(listing: &[u32], relation: Relation, row: usize) -> Result<usize, Refusal>
     ensures { result ≡ bytes_for listing.now relation row }
 {
-    match circuit::reader::read_row(listing, relation, row) {
-        Found::At { start, end } => Ok(bytes_of_lines(end - start)),
-        Err(r) => Err(r),
-    }
+    let place = circuit::reader::read_row(listing, relation, row)?;
+    Ok(bytes_of_lines(place.end - place.start))
 }
 
 // Writes the pages of a row that was found: its head, its terms, and blanks to the end.
@@ -80,19 +71,25 @@ fn lay_row(
         (laid_at cpi listing.now batch.now relation row cycle page.old
         (row_read listing.now relation row)) }
 {
-    match circuit::reader::read_row(listing, relation, row) {
-        Err(r) => Err(r),
-        Found::At { start, end } => {
-            if page.len() != bytes_of_lines(end - start) {
-                return Err(Question::PageLength.refused());
-            }
-            if cpi <= cycle {
-                return Err(Question::CycleRange.refused());
-            }
-            write_pages(page, cpi, listing, batch, relation, row, cycle, start, end);
-            Ok(())
-        }
+    let place = circuit::reader::read_row(listing, relation, row)?;
+    if page.len() != bytes_of_lines(place.end - place.start) {
+        return Err(Question::PageLength.refused());
     }
+    if cpi <= cycle {
+        return Err(Question::CycleRange.refused());
+    }
+    write_pages(
+        page,
+        cpi,
+        listing,
+        batch,
+        relation,
+        row,
+        cycle,
+        place.start,
+        place.end,
+    );
+    Ok(())
 }
 
 // Lays a row of a listing in a cycle of a batch out on pages: questions 1, 2, 6 to 10, 13, 16 and 15.
@@ -108,8 +105,6 @@ pub fn lay_out(
     ensures { ◌≡◌ {A = Laid} (record { answer = result; page = page.new })
         (laid_out cpi listing.now batch.now relation row cycle page.old) }
 {
-    match layout::ask_batch(cpi, batch.len()) {
-        Err(r) => Err(r),
-        Ok(()) => lay_row(cpi, listing, batch, relation, row, cycle, page),
-    }
+    layout::ask_batch(cpi, batch.len())?;
+    lay_row(cpi, listing, batch, relation, row, cycle, page)
 }

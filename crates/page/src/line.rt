@@ -5,8 +5,8 @@ ghost use Rattle.text.specs.Put.{Put, Placed};
 ghost use Rattle.page.specs.Line.{failed_text, counts_text, verdict_line, answer_line};
 
 use circuit::Relation;
-use verdict::{Counts, Verdict};
 use layout::Refusal;
+use verdict::{Counts, Verdict};
 
 // Places a part at an index where there is room for it, and gives the index behind it. The next five do the same with their texts; three
 // of them start at 0.
@@ -75,7 +75,7 @@ fn place_answer(out: &mut [u8], answer: Result<Verdict, Refusal>) -> usize
         Ok(v) => place_verdict(out, v),
         Err(r) => {
             let number = place(out, 0, b"refused ");
-            let end = place_decimal(out, number, r.number as usize);
+            let end = place_decimal(out, number, r.question.number() as usize);
             place(out, end, b"\n")
         }
     }

@@ -12,15 +12,11 @@ use layout::{Question, Refusal};
 fn ask(cpi: usize, cycles: usize, public: usize, batch: usize) -> Result<(), Refusal>
     ensures { result ≡ assembly_asked cpi cycles public batch }
 {
-    match ask_public(cpi, public, batch) {
-        Err(r) => Err(r),
-        Ok(()) => {
-            if cycles != 4096 * cpi {
-                return Err(Question::CyclesLength.refused());
-            }
-            Ok(())
-        }
+    ask_public(cpi, public, batch)?;
+    if cycles != 4096 * cpi {
+        return Err(Question::CyclesLength.refused());
     }
+    Ok(())
 }
 
 // A column of every cycle: one cycle after the other in the lent words, side by side in the batch.
@@ -60,16 +56,16 @@ fn assemble(cpi: usize, cycles: &[u64], public: &[u64], batch: &mut [u64])
 }
 
 // A no leaves the batch as it came; a yes leaves nothing of it.
-pub fn assemble_instance_z(cpi: usize, cycles: &[u64], public: &[u64], batch: &mut [u64]) -> Result<(), Refusal>
+pub fn assemble_instance_z(
+    cpi: usize,
+    cycles: &[u64],
+    public: &[u64],
+    batch: &mut [u64],
+) -> Result<(), Refusal>
     ensures { ◌≡◌ {A = Called} (record { answer = result; batch = batch.new })
         (assembly_called cpi cycles.now public.now batch.old) }
 {
-    let asked = ask(cpi, cycles.len(), public.len(), batch.len());
-    match asked {
-        Err(r) => Err(r),
-        Ok(()) => {
-            assemble(cpi, cycles, public, batch);
-            Ok(())
-        }
-    }
+    ask(cpi, cycles.len(), public.len(), batch.len())?;
+    assemble(cpi, cycles, public, batch);
+    Ok(())
 }

@@ -180,17 +180,17 @@ fn write_row(words: &[u64], public: &[u64], row: &mut [u64])
 }
 
 // Questions 2 and 3: a row is a batch of one cycle. A no leaves the row as it came; a yes leaves nothing of it.
-pub fn witness_row(cycle: CycleRecord, rom: RomRow, public: &[u64], row: &mut [u64]) -> Result<(), Refusal>
+pub fn witness_row(
+    cycle: CycleRecord,
+    rom: RomRow,
+    public: &[u64],
+    row: &mut [u64],
+) -> Result<(), Refusal>
     ensures { ◌≡◌ {A = Called} (record { answer = result; batch = row.new })
         (row_called cycle rom public.now row.old) }
 {
-    let asked = ask_public(1, public.len(), row.len());
-    match asked {
-        Err(r) => Err(r),
-        Ok(()) => {
-            let words = row_words(cycle, rom);
-            write_row(&words, public, row);
-            Ok(())
-        }
-    }
+    ask_public(1, public.len(), row.len())?;
+    let words = row_words(cycle, rom);
+    write_row(&words, public, row);
+    Ok(())
 }

@@ -19,15 +19,11 @@ fn public_fits(words: usize, most: usize) -> bool
 pub fn ask_public(cpi: usize, public: usize, batch: usize) -> Result<(), Refusal>
     ensures { result ≡ public_asked cpi public batch }
 {
-    match layout::ask_batch(cpi, batch) {
-        Err(r) => Err(r),
-        Ok(()) => {
-            if !public_fits(public, 4096 * cpi - 2) {
-                return Err(Question::PublicLength.refused());
-            }
-            Ok(())
-        }
+    layout::ask_batch(cpi, batch)?;
+    if !public_fits(public, 4096 * cpi - 2) {
+        return Err(Question::PublicLength.refused());
     }
+    Ok(())
 }
 
 // All words from start on, which is where the one column stands.

@@ -49,7 +49,7 @@ module _ (cpi : ℕ) (listing batch : List ℕ) (rel : Relation) (n d : ℕ) (th
     where
       by_place : (f : Answer Place) → bytes_at listing f ≡ Ok bytes
           → laid_at cpi listing batch rel n d there f ≡ laid (pages (row_lines cpi batch d rel n (sides_in listing f)))
-      by_place (place_at start end) e =
+      by_place (Ok place) e =
           sym (passed _ _ _ (lt-ltb d cpi inside) ∙ passed _ _ _ (eq-eqb _ _ (long ∙ ap bytes_in (sym e))))
       by_place (Err r) e = let z : ◌≡◌ {A = ℕ} 0 1 = cc in absurd (omega arith)
 

@@ -1,11 +1,12 @@
 -- What a chain of questions, or a call that asks one, says where it was answered with yes.
 -- Assumes nothing.
 use Rattle.std.specs.Prelude.{◌≡◌, refl, Bool, true, false, cond, List, ℕ, eqb, Err, Ok}
+use Rattle.std.specs.Result.{IsErrAnd}
 use Rattle.std.proofs.Common.{sym, ap, ◌∙◌, arith, eqb-true, eq-eqb}
 use Rattle.base.specs.Laws.Tests.{passed}
 use Rattle.base.specs.Laws.WaysOut.{waysOut}
 use Rattle.layout.specs.declared.questions.Refusal.{Refusal}
-use Rattle.layout.specs.Questions.{no, if_yes, Called, after, Asked}
+use Rattle.layout.specs.Questions.{no, if_yes, Called, after, Answer, Asked}
 use Rattle.layout.specs.Batch.{allowed, batch_words, batch_asked}
 use Rattle.layout.specs.declared.questions.Question.TheVariants.{BatchLength, BatchSize}
 
@@ -42,6 +43,11 @@ pub asked-no : {A : Type 0} (refuse : Refusal → A) (told q : Asked) (r : Refus
 asked-no refuse told q r x answer e n h = h ∙ if_no refuse answer (sym e ∙ n)
 
 pub ruleset asking = (waysOut, asked-yes, asked-no)
+
+-- what `?` hands on is the refusal that it met
+pub handed-on : {A : Type 0} {e : Refusal} (r : Answer A) → IsErrAnd r (λ y. y ≡ e) → r ≡ Err e
+handed-on (Ok x) h = absurd h
+handed-on (Err y) h = ap Err h
 
 -- a call that answered yes
 pub after-yes : (a : Asked) (made there u : List ℕ) → after a made there ≡ record { answer = Ok tt; batch = u } → (a ≡ Ok tt) × (u ≡ made)

@@ -20,23 +20,24 @@ use Rattle.merge.specs.Merged.{merged}
 use Rattle.merge.specs.Calls.{sizes_asked, merge_asked, merge_called, differs, first_differing}
 use Rattle.merge.specs.Laws.Answers.{sizes-yes}
 use Rattle.merge.proofs.Laws.Given.{zeros, zeros-long, zero-at}
-use Rattle.layout.specs.declared.questions.Question.TheVariants.{PublicColumns}
+use Rattle.layout.specs.declared.questions.Question.TheVariants.{BatchSize, BatchLength, MergeSizes, PublicColumns}
+use Rattle.layout.specs.declared.questions.Question.{Question}
 
 -- a call that is refused, and leaves what was there
-abbrev Refuses : ℕ → List ℕ → ℕ → List ℕ → List ℕ → ℕ → ℕ → Type 0
-Refuses cpi first cpi₂ second there number place =
-    merge_called cpi first cpi₂ second there ≡ record { answer = Err (no number place); batch = there }
+abbrev Refuses : ℕ → List ℕ → ℕ → List ℕ → List ℕ → Question → ℕ → Type 0
+Refuses cpi first cpi₂ second there question place =
+    merge_called cpi first cpi₂ second there ≡ record { answer = Err (no question place); batch = there }
 
 pub record GivenRefusals (there : List ℕ) : Type 0 where
   -- 3 cycles are no size, the first's nor the second's; also where sizes differ
-  pub first-size : Refuses 3 [] 1 [] there 1 0
-  pub second-size : Refuses 1 [] 3 [] there 1 0
+  pub first-size : Refuses 3 [] 1 [] there BatchSize 0
+  pub second-size : Refuses 1 [] 3 [] there BatchSize 0
   -- sizes differ, or twice as many cycles are more than 256; also where lengths are wrong
-  pub sizes-differ : Refuses 1 [] 2 [] there 19 0
-  pub too_many : Refuses 256 [] 256 [] there 19 0
+  pub sizes-differ : Refuses 1 [] 2 [] there MergeSizes 0
+  pub too_many : Refuses 256 [] 256 [] there MergeSizes 0
   -- 128 cycles are not too many: the first's words are asked next
-  pub no_words : Refuses 128 [] 128 [] there 2 0
-  pub no-second-words : Refuses 2 zeros 2 [] there 2 0
+  pub no_words : Refuses 128 [] 128 [] there BatchLength 0
+  pub no-second-words : Refuses 2 zeros 2 [] there BatchLength 0
   -- and then the room; also where public columns differ
   pub no_room : Refuses 2 zeros 2 (set zeros 8192 1) [] 2 0
   -- two batches of two cycles differ in the one column, which is 4096; in another public column; and in the last
@@ -86,12 +87,12 @@ module _ (p : ℕ) (public : 4096 ≤ p) (inside : p < 8192) where
 
 -- a no to a question on the sizes
 sizes-no : (cpi : ℕ) (first : List ℕ) (cpi₂ : ℕ) (second there : List ℕ) (number place : ℕ)
-    → sizes_asked cpi (length first) cpi₂ (length second) (length there) ≡ Err (no number place)
-    → Refuses cpi first cpi₂ second there number place
+    → sizes_asked cpi (length first) cpi₂ (length second) (length there) ≡ Err (no question place)
+    → Refuses cpi first cpi₂ second there question place
 unfolding merge_called merge_asked
 sizes-no cpi first cpi₂ second there number place e =
     sym
-    (called-no (merge_asked cpi first cpi₂ second (length there)) (no number place) (merged cpi first second) there
+    (called-no (merge_asked cpi first cpi₂ second (length there)) (no question place) (merged cpi first second) there
     (sym (if_no Err _ e)))
 
 pub given-refusals : (there : List ℕ) → GivenRefusals there

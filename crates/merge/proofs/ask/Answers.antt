@@ -1,5 +1,6 @@
 -- `merge::ask` meets its contract: the questions on the sizes, and then the one on the public columns.
 -- Assumes nothing.
+use borrow.Author.Rules.{rules}
 use mathlib.Core.Path.{◌≡◌, sym, ap, subst, ◌∙◌}
 use Rattle.std.proofs.Common.{ℕ, List, ◌-◌, ◌*◌, ◌≤◌, ◌<◌}
 use native.Mathlib.Omega.{arith}
@@ -15,14 +16,14 @@ use Rattle.layout.specs.declared.questions.Question.TheVariants.{PublicColumns}
 use Rattle.std.specs.Prelude.{Err}
 
 pub overflow_mul-end : goal.overflow_mul-end
-overflow_mul-end c = omega (arith, (sized _ _ _ _ _ (sym c.ask_sizes.ensures ∙ c.in-Ok.is)).few)
+overflow_mul-end c = omega (arith, (sized _ _ _ _ _ (sym c.ask_sizes.ensures ∙ c.in_ok-ask_sizes.was)).few)
 
 pub overflow_mul-first_cpi : goal.overflow_mul-first_cpi
-overflow_mul-first_cpi c = omega (arith, (sized _ _ _ _ _ (sym c.ask_sizes.ensures ∙ c.in-Ok.is)).few)
+overflow_mul-first_cpi c = omega (arith, (sized _ _ _ _ _ (sym c.ask_sizes.ensures ∙ c.in_ok-ask_sizes.was)).few)
 
 pub first_differing-place-requires : goal.first_differing-place-requires
 first_differing-place-requires c =
-    let s = sized _ _ _ _ _ (sym c.ask_sizes.ensures ∙ c.in-Ok.is) in (omega arith, (omega arith, omega arith))
+    let s = sized _ _ _ _ _ (sym c.ask_sizes.ensures ∙ c.in_ok-ask_sizes.was) in (omega arith, (omega arith, omega arith))
 
 -- the search finds the column that the definition names
 found : (cpi : ℕ) (first second : List ℕ) (n : ℕ) → n ≡ first_from (differs first second) (2048 * cpi) (4096 * cpi - 2048 * cpi)
@@ -34,14 +35,14 @@ unfolding merge_asked
 returns-then-place-end c =
     let e = found c.args.first_cpi c.args.first.now c.args.second.now _ c.first_differing-place.ensures in
     ap (λ (p : ℕ). Err (no PublicColumns p)) e ∙ refused _ _ _ (lt-leb _ _ (subst (λ (n : ℕ). n < 4096 * c.args.first_cpi) e c.if-place-end.true))
-    ∙ if_yes_lem Err _ (sym c.ask_sizes.ensures ∙ c.in-Ok.is)
+    ∙ if_yes_lem Err _ (sym c.ask_sizes.ensures ∙ c.in_ok-ask_sizes.was)
 
-pub returns-in-Err : goal.returns-in-Err
+pub returns-in_err-ask_sizes : goal.returns-in_err-ask_sizes
 unfolding merge_asked
-returns-in-Err c = search asking
+returns-in_err-ask_sizes c = search (rules, asking, c.in_err-ask_sizes.was)
 
-pub returns-else-place-end : goal.returns-else-place-end
+pub returns : goal.returns
 unfolding merge_asked
-returns-else-place-end c =
+returns c =
     passed _ _ _ (le-leb _ _ (subst (λ (n : ℕ). 4096 * c.args.first_cpi ≤ n) (found c.args.first_cpi c.args.first.now c.args.second.now _ c.first_differing-place.ensures) c.if-place-end.false))
-    ∙ if_yes_lem Err _ (sym c.ask_sizes.ensures ∙ c.in-Ok.is)
+    ∙ if_yes_lem Err _ (sym c.ask_sizes.ensures ∙ c.in_ok-ask_sizes.was)

@@ -11,7 +11,7 @@ use Rattle.verdict.specs.declared.Counts.{Counts}
 use Rattle.verdict.specs.declared.Verdict.{Verdict}
 use Rattle.verdict.specs.declared.Verdict.TheVariants.{Accepted, Failed}
 use Rattle.page.specs.Line.{failed_text, counts_text, verdict_line, answer_line}
-use Rattle.layout.specs.Questions.{Answer}
+use Rattle.layout.specs.Questions.{number_of, Answer}
 
 counts-short : (n : Counts) → length (counts_text n) ≤ 50
 counts-short n =
@@ -47,7 +47,7 @@ line-short (Ok v) = verdict-short v
 line-short (Err r) =
     omega (
       arith,
-      length-append (ascii "refused " ++ decimal r.number) (ascii "\n"),
-      length-append (ascii "refused ") (decimal r.number),
-      decimal-most 20 r.number,
+      length-append (ascii "refused " ++ decimal (number_of r.question)) (ascii "\n"),
+      length-append (ascii "refused ") (decimal (number_of r.question)),
+      decimal-most 20 (number_of r.question),
     )

@@ -6,17 +6,13 @@ use Rattle.layout.specs.Laws.Questions.{asking, batch-yes}
 use Rattle.page.specs.Pages.{laid_out}
 use Rattle.page.proofs.lay_out.Goals as goal
 
-pub ask_batch-requires : goal.ask_batch-requires
-unfolding laid_out
-ask_batch-requires c = search rules
-
 pub lay_row-requires : goal.lay_row-requires
-lay_row-requires c = batch-yes _ _ (sym c.ask_batch.ensures ∙ c.in-Ok.is)
+lay_row-requires c = batch-yes _ _ (sym c.ask_batch.ensures ∙ c.in_ok-ask_batch.was)
 
-pub returns-in-Err : goal.returns-in-Err
+pub returns-in_err-ask_batch : goal.returns-in_err-ask_batch
 unfolding laid_out
-returns-in-Err c = search asking
+returns-in_err-ask_batch c = search (rules, asking, c.in_err-ask_batch.was)
 
-pub returns-in-Ok : goal.returns-in-Ok
+pub returns : goal.returns
 unfolding laid_out
-returns-in-Ok c = search asking
+returns c = search (asking, c.in_ok-ask_batch.was)

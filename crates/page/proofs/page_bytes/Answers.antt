@@ -1,5 +1,7 @@
 -- `page::page_bytes` meets its contract: a row has as many lines as words, its mark's the head.
 -- Assumes nothing.
+use Rattle.layout.specs.Laws.Questions.{handed-on}
+use borrow.Author.Rules.{rules}
 use mathlib.Core.Path.{sym, ap, ◌∙◌}
 use Rattle.page.specs.Pages.{page_bytes, bytes_at, bytes_for}
 use Rattle.page.specs.Laws.Rows.{row_read_lem, read-few}
@@ -7,20 +9,20 @@ use Rattle.page.specs.Laws.Pages.{lines_are}
 use Rattle.page.proofs.page_bytes.Goals as goal
 use Rattle.std.specs.Prelude.{Ok}
 
-pub overflow_sub-end : goal.overflow_sub-end
-overflow_sub-end c = (read-few _ _ _ _ _ (sym c.read_row.ensures
-    ∙ c.in-Ok.is)).0
+pub overflow_sub-place : goal.overflow_sub-place
+overflow_sub-place c = (read-few _ _ _ _ _ (sym c.read_row.ensures
+    ∙ c.in_ok-place.was)).0
 
 pub bytes_of_lines-requires : goal.bytes_of_lines-requires
-bytes_of_lines-requires c = (read-few _ _ _ _ _ (sym c.read_row.ensures ∙ c.in-Ok.is)).1
+bytes_of_lines-requires c = (read-few _ _ _ _ _ (sym c.read_row.ensures ∙ c.in_ok-place.was)).1
 
-pub returns-in-Ok : goal.returns-in-Ok
+pub returns : goal.returns
 unfolding bytes_for
-returns-in-Ok c =
-    let e = sym c.read_row.ensures ∙ c.in-Ok.is in
+returns c =
+    let e = sym c.read_row.ensures ∙ c.in_ok-place.was in
     ap Ok (c.bytes_of_lines.ensures ∙ ap page_bytes (sym (lines_are _ _ _ (row_read_lem _ _ _ _ _ e).0)))
     ∙ ap (bytes_at c.args.listing.now) (sym e)
 
-pub returns-in-Err : goal.returns-in-Err
+pub returns-in_err-place : goal.returns-in_err-place
 unfolding bytes_for
-returns-in-Err c = ap (bytes_at c.args.listing.now) (sym c.in-Err.is ∙ c.read_row.ensures)
+returns-in_err-place c = let e = c.in_err-place.was in handed-on _ c.from_residual.ensures.1 ∙ ap (bytes_at c.args.listing.now) (sym e ∙ c.read_row.ensures)

@@ -33,18 +33,18 @@ module _ (cpi : ℕ) (listing batch : List ℕ) (rel : Relation) (n d : ℕ) (th
       → LaidOut cpi listing batch rel n d (laid_at cpi listing batch rel n d there f).page
   unfolding laid_at
   laid-at (Err r) e size words y = let z : ◌≡◌ {A = ℕ} 0 1 = cc in absurd (omega arith)
-  laid-at (place_at start end) e size words y = by_tests (eqb (length there) (page_bytes (line_count (sides_at listing start)))) (ltb d cpi) refl y
+  laid-at (Ok place) e size words y = by_tests (eqb (length there) (page_bytes (line_count (sides_at listing place.start)))) (ltb d cpi) refl y
     where
       made : List ℕ
-      made = pages (row_lines cpi batch d rel n (sides_at listing start))
+      made = pages (row_lines cpi batch d rel n (sides_at listing place.start))
 
       by_tests : (b c : Bool) → ltb d cpi ≡ c
           → (cond b (cond c (laid made) (not_laid there (no CycleRange 0))) (not_laid there (no PageLength 0))).answer ≡ Ok tt
           → LaidOut cpi listing batch rel n d (cond b (cond c (laid made) (not_laid there (no CycleRange 0))) (not_laid there (no PageLength 0))).page
       by_tests true true l y =
           record {
-            start = start;
-            end = end;
+            start = place.start;
+            end = place.end;
             place = e;
             in-batch = record { size = size; inside = ltb-true d cpi l; words = words };
             page-is = refl;
@@ -71,10 +71,10 @@ module _ (cpi : ℕ) (listing batch : List ℕ) (rel : Relation) (n d : ℕ) (th
       → (laid_at cpi listing batch rel n d there f).page ≡ there
   unfolding laid_at
   kept_at (Err q) e = refl
-  kept_at (place_at start end) {r} e = by_tests (eqb (length there) (page_bytes (line_count (sides_at listing start)))) (ltb d cpi) e
+  kept_at (Ok place) {r} e = by_tests (eqb (length there) (page_bytes (line_count (sides_at listing place.start)))) (ltb d cpi) e
     where
       made : List ℕ
-      made = pages (row_lines cpi batch d rel n (sides_at listing start))
+      made = pages (row_lines cpi batch d rel n (sides_at listing place.start))
 
       by_tests : (b c : Bool) → (cond b (cond c (laid made) (not_laid there (no CycleRange 0))) (not_laid there (no PageLength 0))).answer ≡ Err r
           → (cond b (cond c (laid made) (not_laid there (no CycleRange 0))) (not_laid there (no PageLength 0))).page ≡ there

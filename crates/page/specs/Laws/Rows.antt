@@ -26,7 +26,7 @@ read-place ws rel n start end e = (read_found (validated ws) (found ws rel n) st
 
 -- where it was found, it ends before the next mark
 Ends : List ℕ → Answer Place → Type 0
-Ends ws (place_at start end) = end ≡ start + 1 + until is_mark (drop (start + 1) ws)
+Ends ws (Ok place) = place.end ≡ place.start + 1 + until is_mark (drop (place.start + 1) ws)
 Ends ws (Err r) = Unit
 
 found-ends : (ws : List ℕ) (rel : Relation) (n : ℕ) → Ends ws (found ws rel n)

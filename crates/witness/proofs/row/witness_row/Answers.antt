@@ -1,5 +1,7 @@
 -- `witness::row::witness_row` meets its contract: the questions pick the case; where they are passed, the words have the bits of the table.
 -- Assumes nothing.
+use Rattle.layout.specs.Laws.Questions.{asking}
+use borrow.Author.Rules.{rules}
 use Rattle.std.proofs.Common.{ℕ, List, sym, ap, ◌∙◌, arith}
 use Rattle.base.specs.Lists.{from}
 use Rattle.layout.specs.Questions.{after, Asked}
@@ -13,18 +15,15 @@ use Rattle.witness.proofs.row.witness_row.Goals as goal
 use Rattle.std.specs.Prelude.{Ok}
 
 pub write_row-requires : goal.write_row-requires
-write_row-requires c = (public-yes 1 _ _ (sym c.ask_public-asked.ensures ∙ c.in-Ok.is)).1
+write_row-requires c = (public-yes 1 _ _ (sym c.ask_public.ensures ∙ c.in_ok-ask_public.was)).1
 
-pub returns-in-Err : goal.returns-in-Err
+pub returns-in_err-ask_public : goal.returns-in_err-ask_public
 unfolding row_called
-returns-in-Err c =
-    let a = c.args in
-    ap (λ (q : Asked). after q (made_row a.cycle a.rom a.public.now) a.row.now)
-    (sym c.in-Err.is ∙ c.ask_public-asked.ensures)
+returns-in_err-ask_public c = search (rules, asking, c.in_err-ask_public.was)
 
-pub returns-in-Ok : goal.returns-in-Ok
+pub returns : goal.returns
 unfolding row_called
-returns-in-Ok c =
+returns c =
     let a = c.args in
     let fit : Words a.cycle =
     record {
@@ -35,7 +34,7 @@ returns-in-Ok c =
       second = omega (arith, c.well_formed);
       out = omega (arith, c.well_formed);
     } in
-    let yes = sym c.ask_public-asked.ensures ∙ c.in-Ok.is in
+    let yes = sym c.ask_public.ensures ∙ c.in_ok-ask_public.was in
     ap (λ (b : List ℕ). record { answer = Ok tt; batch = b })
     (c.write_row.ensures ∙ ap (λ (ws : List ℕ). from 0 ROW-WORDS (row_word (bit_in ws) a.public.now)) c.row_words-words.ensures
     ∙ made-by-words a.cycle a.rom fit a.public.now)
