@@ -68,7 +68,12 @@ pub fn check_known(which: Known, cpi: usize, batch: &[u64]) -> Result<Verdict, R
 }
 
 // The check against a listing that is lent: questions 1, 2, 5, and 6 to 10.
-pub fn check_row(cpi: usize, listing: &[u32], batch: &[u64], scratch: &mut [u64]) -> Result<Verdict, Refusal>
+pub fn check_row(
+    cpi: usize,
+    listing: &[u32],
+    batch: &[u64],
+    scratch: &mut [u64],
+) -> Result<Verdict, Refusal>
     ensures { ◌≡◌ {A = Checked} (record { answer = result; scratch = scratch.new })
         (checked cpi listing.now batch.now scratch.old) }
 {
@@ -87,9 +92,6 @@ pub fn check_row(cpi: usize, listing: &[u32], batch: &[u64], scratch: &mut [u64]
 pub fn fill_and_check(which: Known, cpi: usize, batch: &mut [u64]) -> Result<Verdict, Refusal>
     ensures { Promised which cpi batch.old result batch.new }
 {
-    let asked = filler::fill::fill(cpi, batch);
-    match asked {
-        Err(r) => Err(r),
-        Ok(()) => check_known(which, cpi, batch),
-    }
+    filler::fill::fill(cpi, batch)?;
+    check_known(which, cpi, batch)
 }

@@ -36,8 +36,7 @@ fn pack_and_judge(which: Known, cpi: usize, batch: &[u64], out: &mut [u64]) -> b
 {
     match pack(cpi, batch, out) {
         Ok(true) => judge_cycles(which, cpi, out, element(batch, 2048 * cpi + 1)),
-        Ok(false) => false,
-        Err(_) => false,
+        _ => false,
     }
 }
 

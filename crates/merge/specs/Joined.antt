@@ -1,7 +1,7 @@
 -- What is said of a merged batch, from what is said of its two parts of cpi cycles each: the verdict of the plain check, and the answer of
 -- the bit test.
 -- Assumes nothing.
-use Rattle.std.specs.Prelude.{cond, ℕ, ◌+◌, ◌*◌, leb, Err, None, Ok, Option}
+use Rattle.std.specs.Prelude.{cond, ℕ, ◌+◌, ◌*◌, leb, Err, Some, None, Ok, Option}
 use Rattle.layout.specs.Batch.{column_at}
 use Rattle.circuit.specs.declared.Relation.{Relation}
 use Rattle.circuit.specs.declared.Relation.TheVariants.{Bin, Fld}
@@ -11,6 +11,7 @@ use Rattle.verdict.specs.declared.Verdict.TheVariants.{Accepted, Failed}
 use Rattle.verdict.specs.Counts.{counts}
 use Rattle.layout.specs.Questions.{Answer}
 use Rattle.verdict.specs.Bits.{not_bit}
+use Rattle.verdict.specs.declared.bits.NotBit.{NotBit}
 
 -- ---- the plain check
 

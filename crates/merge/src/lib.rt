@@ -38,7 +38,13 @@ fn first_differing(first: &[u64], second: &[u64], start: usize, end: usize) -> u
 }
 
 // Questions 1 of either size, 19, and 2 of all three lengths.
-fn ask_sizes(first_cpi: usize, first: usize, second_cpi: usize, second: usize, room: usize) -> Result<(), Refusal>
+fn ask_sizes(
+    first_cpi: usize,
+    first: usize,
+    second_cpi: usize,
+    second: usize,
+    room: usize,
+) -> Result<(), Refusal>
     ensures { result ≡ sizes_asked first_cpi first second_cpi second room }
 {
     if !layout::is_allowed(first_cpi) {
@@ -66,7 +72,13 @@ fn ask_sizes(first_cpi: usize, first: usize, second_cpi: usize, second: usize, r
 }
 
 // And then 20, whose place is a column of a given batch.
-fn ask(first_cpi: usize, first: &[u64], second_cpi: usize, second: &[u64], room: usize) -> Result<(), Refusal>
+fn ask(
+    first_cpi: usize,
+    first: &[u64],
+    second_cpi: usize,
+    second: &[u64],
+    room: usize,
+) -> Result<(), Refusal>
     ensures { result ≡ merge_asked first_cpi first.now second_cpi second.now room }
 {
     ask_sizes(first_cpi, first.len(), second_cpi, second.len(), room)?;

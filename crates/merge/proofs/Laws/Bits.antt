@@ -1,7 +1,7 @@
 -- The bit test of a merged batch. A test of its columns finds none before a place where that of the first finds none before the part of it
 -- that lies in the first batch, and that of the second none before the part in the second.
 -- Assumes nothing.
-use Rattle.std.specs.Prelude.{◌≡◌, refl, ◌⊎◌, Bool, true, false, cond, not, List, ℕ, ◌+◌, ◌-◌, ◌*◌, ◌/◌, ◌%◌, ◌≤◌, ◌<◌, leb, length, Err, None, Ok, Option}
+use Rattle.std.specs.Prelude.{◌≡◌, refl, ◌⊎◌, Bool, true, false, cond, not, List, ℕ, ◌+◌, ◌-◌, ◌*◌, ◌/◌, ◌%◌, ◌≤◌, ◌<◌, leb, length, Err, Some, None, Ok, Option}
 use Rattle.std.proofs.Common.{sym, ap, ap₂, subst, ◌∙◌, inl, inr, ⊎_elim, mod-lt, div-add-mod', div-lt_iff_lt-mul, mul-le-mul_right, arith, leb-true, leb-false}
 use Rattle.std.proofs.Math.Decide.{dec_lt}
 use Rattle.std.proofs.Math.Arith.{digits_lt}
@@ -12,6 +12,7 @@ use Rattle.layout.specs.Laws.Mapping.{witness-column, column_fits}
 use Rattle.layout.specs.Laws.Sizes.{allowed-range}
 use Rattle.verdict.specs.Bits.{above_one, bit_tested, not_bit}
 use Rattle.verdict.specs.Laws.BitTest.{all-bits-said, not-bit-named, Above, none, found, above}
+use Rattle.verdict.specs.declared.bits.NotBit.{NotBit}
 use Rattle.merge.specs.Merged.{merged}
 use Rattle.merge.specs.Joined.{joined_bits, in_first, in_second}
 use Rattle.merge.specs.Merging.{Bits}
@@ -161,14 +162,15 @@ module _ (cpi : ℕ) (first second : List ℕ) (size : allowed cpi ≡ true) (tw
 
   all-joined : (v w : Answer (Option NotBit)) → joined_bits cpi v w ≡ Ok None → (v ≡ Ok None) × (w ≡ Ok None)
   all-joined (Ok None) (Ok None) e = (refl, refl)
-  all-joined (Ok None) (not_bit y b f) e = let z : ◌≡◌ {A = ℕ} 0 1 = cc in absurd (omega arith)
+  all-joined (Ok None) (Ok (Some b)) e = let z : ◌≡◌ {A = ℕ} 0 1 = cc in absurd (omega arith)
   all-joined (Ok None) (Err r) e = let z : ◌≡◌ {A = ℕ} 0 1 = cc in absurd (omega arith)
   all-joined (Err r) w e = let z : ◌≡◌ {A = ℕ} 0 1 = cc in absurd (omega arith)
-  all-joined (not_bit x c d) (Ok None) e = let z : ◌≡◌ {A = ℕ} 0 1 = cc in absurd (omega arith)
-  all-joined (not_bit x c d) (Err r) e = let z : ◌≡◌ {A = ℕ} 0 1 = cc in absurd (omega arith)
-  all-joined (not_bit x c d) (not_bit y b f) e = by-column (leb c b) e
+  all-joined (Ok (Some a)) (Ok None) e = let z : ◌≡◌ {A = ℕ} 0 1 = cc in absurd (omega arith)
+  all-joined (Ok (Some a)) (Err r) e = let z : ◌≡◌ {A = ℕ} 0 1 = cc in absurd (omega arith)
+  all-joined (Ok (Some a)) (Ok (Some b)) e = by-column (leb a.column b.column) e
     where
-      by-column : (t : Bool) → cond t (in_first cpi c d) (in_second cpi b f) ≡ Ok None → (not_bit x c d ≡ Ok None) × (not_bit y b f ≡ Ok None)
+      by-column : (t : Bool) → cond t (in_first cpi a.column a.cycle) (in_second cpi b.column b.cycle) ≡ Ok None
+          → (◌≡◌ {A = Answer (Option NotBit)} (Ok (Some a)) (Ok None)) × (◌≡◌ {A = Answer (Option NotBit)} (Ok (Some b)) (Ok None))
       by-column true e = let z : ◌≡◌ {A = ℕ} 0 1 = cc in absurd (omega arith)
       by-column false e = let z : ◌≡◌ {A = ℕ} 0 1 = cc in absurd (omega arith)
 

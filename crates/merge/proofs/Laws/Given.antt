@@ -20,6 +20,7 @@ use Rattle.verdict.proofs.Laws.Sheet.{zeros as all-zero, zeros-accepted, element
 use Rattle.step.proofs.Laws.BitTest.{two-is-none, tells}
 use Rattle.step.proofs.Laws.Chosen.{batch_of, batch-length}
 use Rattle.step.proofs.Laws.Clauses.{replaced, replaced-length}
+use Rattle.verdict.specs.declared.bits.NotBit.{NotBit}
 use Rattle.merge.specs.Merged.{cycle_word, lower_word, public_word, merged_word, merged}
 use Rattle.merge.specs.Joined.{joined, joined_bits}
 use Rattle.merge.proofs.Laws.Bits.{bits as merged-bits}

@@ -39,11 +39,11 @@ pub record GivenRefusals (there : List ℕ) : Type 0 where
   pub no_words : Refuses 128 [] 128 [] there BatchLength 0
   pub no-second-words : Refuses 2 zeros 2 [] there BatchLength 0
   -- and then the room; also where public columns differ
-  pub no_room : Refuses 2 zeros 2 (set zeros 8192 1) [] 2 0
+  pub no_room : Refuses 2 zeros 2 (set zeros 8192 1) [] BatchLength 0
   -- two batches of two cycles differ in the one column, which is 4096; in another public column; and in the last
-  pub one-column : length there ≡ batch_words 4 → Refuses 2 zeros 2 (set zeros 8192 1) there 20 4096
-  pub other-column : length there ≡ batch_words 4 → Refuses 2 zeros 2 (set zeros 8202 1) there 20 4101
-  pub last-column : length there ≡ batch_words 4 → Refuses 2 zeros 2 (set zeros 16382 1) there 20 8191
+  pub one-column : length there ≡ batch_words 4 → Refuses 2 zeros 2 (set zeros 8192 1) there PublicColumns 4096
+  pub other-column : length there ≡ batch_words 4 → Refuses 2 zeros 2 (set zeros 8202 1) there PublicColumns 4101
+  pub last-column : length there ≡ batch_words 4 → Refuses 2 zeros 2 (set zeros 16382 1) there PublicColumns 8191
 
 -- zeros but for 1 in a public column p: they differ from zeros there, and nowhere before
 module _ (p : ℕ) (public : 4096 ≤ p) (inside : p < 8192) where
@@ -67,7 +67,7 @@ module _ (p : ℕ) (public : 4096 ≤ p) (inside : p < 8192) where
   first-is : first_differing 2 zeros other ≡ p
   first-is = first-at-from (differs zeros other) 4096 4096 p public (omega arith) there-differ before-alike
 
-  column-differs : (there : List ℕ) → length there ≡ batch_words 4 → Refuses 2 zeros 2 other there 20 p
+  column-differs : (there : List ℕ) → length there ≡ batch_words 4 → Refuses 2 zeros 2 other there PublicColumns p
   unfolding merge_called merge_asked allowed
   column-differs there room =
       sym
@@ -86,11 +86,11 @@ module _ (p : ℕ) (public : 4096 ≤ p) (inside : p < 8192) where
       })))))
 
 -- a no to a question on the sizes
-sizes-no : (cpi : ℕ) (first : List ℕ) (cpi₂ : ℕ) (second there : List ℕ) (number place : ℕ)
+sizes-no : (cpi : ℕ) (first : List ℕ) (cpi₂ : ℕ) (second there : List ℕ) (question : Question) (place : ℕ)
     → sizes_asked cpi (length first) cpi₂ (length second) (length there) ≡ Err (no question place)
     → Refuses cpi first cpi₂ second there question place
 unfolding merge_called merge_asked
-sizes-no cpi first cpi₂ second there number place e =
+sizes-no cpi first cpi₂ second there question place e =
     sym
     (called-no (merge_asked cpi first cpi₂ second (length there)) (no question place) (merged cpi first second) there
     (sym (if_no Err _ e)))
@@ -99,13 +99,13 @@ pub given-refusals : (there : List ℕ) → GivenRefusals there
 unfolding sizes_asked allowed
 given-refusals there =
     record {
-      first-size = sizes-no 3 [] 1 [] there 1 0 refl;
-      second-size = sizes-no 1 [] 3 [] there 1 0 refl;
-      sizes-differ = sizes-no 1 [] 2 [] there 19 0 refl;
-      too_many = sizes-no 256 [] 256 [] there 19 0 refl;
-      no_words = sizes-no 128 [] 128 [] there 2 0 refl;
-      no-second-words = sizes-no 2 zeros 2 [] there 2 0 (ap (λ (n : ℕ). sizes_asked 2 n 2 0 (length there)) zeros-long);
-      no_room = sizes-no 2 zeros 2 (set zeros 8192 1) [] 2 0
+      first-size = sizes-no 3 [] 1 [] there BatchSize 0 refl;
+      second-size = sizes-no 1 [] 3 [] there BatchSize 0 refl;
+      sizes-differ = sizes-no 1 [] 2 [] there MergeSizes 0 refl;
+      too_many = sizes-no 256 [] 256 [] there MergeSizes 0 refl;
+      no_words = sizes-no 128 [] 128 [] there BatchLength 0 refl;
+      no-second-words = sizes-no 2 zeros 2 [] there BatchLength 0 (ap (λ (n : ℕ). sizes_asked 2 n 2 0 (length there)) zeros-long);
+      no_room = sizes-no 2 zeros 2 (set zeros 8192 1) [] BatchLength 0
           (ap₂ (λ (n m : ℕ). sizes_asked 2 n 2 m 0) zeros-long (length-set {A = ℕ} zeros 8192 1 ∙ zeros-long));
       one-column = column-differs 4096 (omega arith) (omega arith) there;
       other-column = column-differs 4101 (omega arith) (omega arith) there;
