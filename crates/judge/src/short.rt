@@ -35,8 +35,8 @@ fn pack_and_judge(which: Known, cpi: usize, batch: &[u64], out: &mut [u64]) -> b
     ensures { result ≡ short_bits which cpi batch.now out.old }
 {
     match pack(cpi, batch, out) {
-        Ok(true) => judge_cycles(which, cpi, out, element(batch, 2048 * cpi + 1)),
-        _ => false,
+        Ok(bits) => bits && judge_cycles(which, cpi, out, element(batch, 2048 * cpi + 1)),
+        Err(_) => false,
     }
 }
 

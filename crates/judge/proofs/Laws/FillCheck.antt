@@ -60,7 +60,7 @@ module _ (cpi : ℕ) (other batch : List ℕ) (s : SameElsewhere cpi other batch
 -- ---- by what the filler answers
 
 -- a no is no yes
-yes-no : {r : Refusal} → Err r ≡ Ok tt → ⊥
+yes-no : {r : Refusal} → ◌≡◌ {A = Asked} (Err r) (Ok tt) → ⊥
 yes-no e = let z : ◌≡◌ {A = ℕ} 0 1 = cc in omega arith
 
 -- what a call comes to

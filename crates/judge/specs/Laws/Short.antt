@@ -167,11 +167,10 @@ module _ (k : Known) (cpi : ℕ) (batch out : List ℕ) (h : NamedIn cpi batch o
   of-bits {after = after} {x = x} e b f j =
       let p = called_is cpi batch out h e in
       j ∙ ap₂ (λ (u : List ℕ) (y : Gf128). all_judged k u y cpi 0) p.1 f
-      ∙ ap (λ (t : Bool). t && cycles) (sym (bits_are (named_bits cpi batch) (sym p.0 ∙ b)))
+      ∙ ap (λ (t : Bool). t && cycles) (sym (bits_are (sym p.0 ∙ b)))
     where
-      bits_are : (t : Bool) → cond t (Ok true) (Ok false) ≡ Ok true → t ≡ true
-      bits_are true e = refl
-      bits_are false e = let z : ◌≡◌ {A = ℕ} 0 1 = cc in absurd (omega arith)
+      bits_are : {t : Bool} → ◌≡◌ {A = Answer Bool} (Ok t) (Ok true) → t ≡ true
+      bits_are e = cc e
 
   pub packed-room : {a : Answer Bool} {after : List ℕ} → Packs a after → length after ≡ 32 * cpi
   unfolding packed_named
