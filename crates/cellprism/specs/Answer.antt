@@ -1,7 +1,7 @@
 -- The check of a row over the C boundary, and its answer as one 32-bit word (document 01, "Makers and readers").
 -- Assumes nothing.
 use Rattle.std.specs.Prelude.{cond, List, ℕ, ◌+◌, ◌*◌, ◌%◌, ◌^◌, eqb, length, Err, Ok}
-use Rattle.layout.specs.Questions.{no, Answer}
+use Rattle.layout.specs.Questions.{no, number_of, Answer}
 use Rattle.circuit.specs.Words.{flag_word}
 use Rattle.verdict.specs.declared.Verdict.{Verdict}
 use Rattle.verdict.specs.declared.Verdict.TheVariants.{Accepted, Failed}
@@ -24,4 +24,4 @@ verdict_word (Failed relation row n) = 2 ^ 30 + flag_word relation * 2 ^ 29 + ro
 -- the kind in the top two bits; kind 2, refused: the number below
 abbrev pub answer_word : Answer Verdict → ℕ
 answer_word (Ok v) = verdict_word v
-answer_word (Err r) = 2 * 2 ^ 30 + r.number
+answer_word (Err r) = 2 * 2 ^ 30 + number_of r.question

@@ -43,7 +43,7 @@ fn answer_word(answer: Result<Verdict, Refusal>) -> u32
 {
     match answer {
         Ok(v) => verdict_word(v),
-        Err(r) => 0x80000000 + r.number as u32,
+        Err(r) => 0x80000000 + r.question.number() as u32,
     }
 }
 
