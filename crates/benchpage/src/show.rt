@@ -49,7 +49,7 @@ fn put_laid(
         × ((length words.now ≡ ROW-WORDS) × (bytes_for circuit_words relation row ≡ Ok (length pages.old)))) }
     ensures { Placed 0 (with_line_ends (pages_of words.now relation row)) out.old out.new result }
 {
-    page::lay_out(1, listing, words, relation, row, 0, pages);
+    let _ = page::lay_out(1, listing, words, relation, row, 0, pages);
     put_lined(out, pages)
 }
 
@@ -78,7 +78,7 @@ fn put_failing(out: &mut [u8], bytes: &[u8], relation: Relation, row: usize) -> 
     ensures { Placed 0 (with_line_ends (pages_of (row_of bytes.now) relation row)) out.old out.new result }
 {
     let mut words = [0u64; layout::ROW_WORDS];
-    cellprism::read_bytes(bytes, &mut words);
+    let _ = cellprism::read_bytes(bytes, &mut words);
     let mut pages = [b' '; 18000];
     put_pages(out, &mut pages, &words, relation, row)
 }
