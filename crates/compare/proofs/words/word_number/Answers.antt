@@ -5,14 +5,14 @@ use Rattle.compare.specs.Numbers.{word_number}
 use Rattle.compare.proofs.Fits.{WordFits}
 use Rattle.compare.proofs.words.word_number.Goals as goal
 
-pub batch_number-requires : goal.batch_number-requires
-batch_number-requires c = subst WordFits c.in-Mark.is c.requires
+pub batch_word_number-requires : goal.batch_word_number-requires
+batch_word_number-requires c = subst WordFits c.in-Mark.is c.requires
 
-pub batch_number-requires-in-Term : goal.batch_number-requires-in-Term
-batch_number-requires-in-Term c = subst WordFits c.in-Term.is c.requires
+pub batch_word_number-requires-in-Term : goal.batch_word_number-requires-in-Term
+batch_word_number-requires-in-Term c = subst WordFits c.in-Term.is c.requires
 
 pub returns-in-Mark : goal.returns-in-Mark
-returns-in-Mark c = c.batch_number.ensures ∙ sym (ap word_number c.in-Mark.is)
+returns-in-Mark c = c.batch_word_number.ensures ∙ sym (ap word_number c.in-Mark.is)
 
 pub returns-in-Term : goal.returns-in-Term
-returns-in-Term c = c.batch_number-in-Term.ensures ∙ sym (ap word_number c.in-Term.is)
+returns-in-Term c = c.batch_word_number-in-Term.ensures ∙ sym (ap word_number c.in-Term.is)

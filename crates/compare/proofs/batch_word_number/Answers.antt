@@ -2,38 +2,35 @@
 use mathlib.Core.Path.{sym, ap, ◌∙◌}
 use native.Mathlib.Omega.{arith}
 use borrow.Author.Rules.{rules}
-use Rattle.compare.specs.Numbers.{batch_number}
-use Rattle.compare.proofs.batch_number.Goals as goal
+use Rattle.compare.specs.Numbers.{batch_word_number}
+use Rattle.compare.proofs.batch_word_number.Goals as goal
 
 pub overflow_mul-result : goal.overflow_mul-result
-overflow_mul-result c = omega (arith, c.mark_number.ensures, ap batch_number c.in-Row.is)
+overflow_mul-result c = omega (arith, c.mark_number.ensures, ap batch_word_number c.in-Row.is)
 
 pub overflow_add-result : goal.overflow_add-result
-overflow_add-result c = omega (arith, c.mark_number.ensures, ap batch_number c.in-Row.is)
+overflow_add-result c = omega (arith, c.mark_number.ensures, ap batch_word_number c.in-Row.is)
 
 pub overflow_mul-result-in-Term : goal.overflow_mul-result-in-Term
-overflow_mul-result-in-Term c = omega (arith, c.coefficient_number.ensures, ap batch_number c.in-Term.is)
+overflow_mul-result-in-Term c = omega (arith, c.coefficient_number.ensures, ap batch_word_number c.in-Term.is)
 
 pub overflow_add-result-in-Term : goal.overflow_add-result-in-Term
-overflow_add-result-in-Term c = omega (arith, c.coefficient_number.ensures, ap batch_number c.in-Term.is)
+overflow_add-result-in-Term c = omega (arith, c.coefficient_number.ensures, ap batch_word_number c.in-Term.is)
 
 pub overflow_mul-result-in-Term-2 : goal.overflow_mul-result-in-Term-2
 overflow_mul-result-in-Term-2 c =
-    let n = ap batch_number c.in-Term.is in
+    let n = ap batch_word_number c.in-Term.is in
     omega (arith, c.side_kind.ensures, c.coefficient_number.ensures, n)
 
 pub overflow_add-result-in-Term-2 : goal.overflow_add-result-in-Term-2
 overflow_add-result-in-Term-2 c =
-    let n = ap batch_number c.in-Term.is in
+    let n = ap batch_word_number c.in-Term.is in
     omega (arith, c.side_kind.ensures, c.coefficient_number.ensures, n)
 
 pub returns-in-Row : goal.returns-in-Row
-returns-in-Row c = omega (arith, c.mark_number.ensures, ap batch_number c.in-Row.is)
+returns-in-Row c = omega (arith, c.mark_number.ensures, ap batch_word_number c.in-Row.is)
 
 pub returns-in-Term : goal.returns-in-Term
 returns-in-Term c =
-    let n = ap batch_number c.in-Term.is in
+    let n = ap batch_word_number c.in-Term.is in
     omega (arith, c.side_kind.ensures, c.coefficient_number.ensures, n)
-
-pub returns-in-Err : goal.returns-in-Err
-returns-in-Err c = c.refused_at.ensures ∙ sym (ap batch_number c.in-Err.is)
