@@ -36,7 +36,7 @@ fn shift(n: [u64; 8]) -> bool {
 
 // A refusal stands as 0x8000000000000000 and its number.
 fn refused_as(r: Refusal, n: u64) -> bool {
-    n == 0x8000000000000000 + r.number as u64
+    n == 0x8000000000000000 + r.question.number() as u64
 }
 
 fn column_is(answer: Result<usize, Refusal>, n: u64) -> bool {
@@ -62,7 +62,7 @@ fn any_column(n: [u64; 8]) -> bool {
 
 fn way_back(n: [u64; 8]) -> bool {
     match layout::unmap_col(n[0] as usize, n[1] as usize) {
-        CycleColumnAnswer::At { column, cycle } => (column as u64 == n[2]) & (cycle as u64 == n[3]),
+        Ok(found) => (found.column as u64 == n[2]) & (found.cycle as u64 == n[3]),
         Err(r) => refused_as(r, n[2]),
     }
 }

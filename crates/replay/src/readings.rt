@@ -36,7 +36,7 @@ fn check_in(n: [u64; 8], batch: &[u64], scratch: &mut [u64]) -> bool {
     let listing = circuit::build_circuit();
     match judge::check_row(n[0] as usize, &listing, batch, scratch) {
         Ok(v) => verdict_is(v, n) & all_are(scratch, 0),
-        Err(r) => (n[1] == 3) & (r.number as u64 == n[2]) & all_are(scratch, 1),
+        Err(r) => (n[1] == 3) & (r.question.number() as u64 == n[2]) & all_are(scratch, 1),
     }
 }
 
