@@ -14,6 +14,7 @@ enum Progress {
 }
 
 // Question 9.
+#[tactic(auto, unfolding(crate::specs::Valid::after_mark))]
 fn after_mark(low: u32, w: u32) -> Progress
     ensures { result ≡ after_mark low w }
 {
@@ -31,6 +32,7 @@ fn after_mark(low: u32, w: u32) -> Progress
 }
 
 // Questions 8 and 10.
+#[tactic(auto, unfolding(crate::specs::Valid::after_term))]
 fn after_term(low: u32, kind: u32, w: u32) -> Progress
     ensures { result ≡ after_term low kind w }
 {
@@ -44,6 +46,7 @@ fn after_term(low: u32, kind: u32, w: u32) -> Progress
 }
 
 // Question 7, and then those of a mark or of a term.
+#[tactic(auto, unfolding(crate::specs::Valid::after_word))]
 fn after_word(low: u32, kind: u32, w: u32) -> Progress
     ensures { result ≡ after_word low kind w }
 {
@@ -58,6 +61,7 @@ fn after_word(low: u32, kind: u32, w: u32) -> Progress
 }
 
 // Is the listing in order? The first word that is not gives the number and its place.
+#[tactic(auto, unfolding(crate::specs::Valid::validated))]
 pub fn validate(listing: &[u32]) -> Asked
     ensures { result ≡ validated listing.now }
 {
@@ -66,18 +70,11 @@ pub fn validate(listing: &[u32]) -> Asked
     }
     let mut low: u32 = 0;
     let mut kind: u32 = 0;
-    let mut i: usize = 0;
-    while i < listing.len() {
-        match after_word(low, kind, listing[i]) {
-            Progress::Go { low: l, kind: k } => {
-                low = l;
-                kind = k;
-            }
-            Progress::Stop { number } => {
-                return Asked::No(Refusal { number, place: i });
-            }
+    for (i, w) in listing.iter().enumerate() {
+        match after_word(low, kind, *w) {
+            Progress::Go { low: l, kind: k } => (low, kind) = (l, k),
+            Progress::Stop { number } => return Asked::No(Refusal { number, place: i }),
         }
-        i = i + 1;
     }
     Asked::Yes
 }

@@ -1,17 +1,15 @@
 -- `circuit::questions::validate` meets its contract: what is left, asked from here, answers as the whole does, at every turn.
 -- Assumes nothing.
-use mathlib.Core.Path.{◌≡◌, refl, sym, ap, ◌∙◌}
+use mathlib.Core.Path.{◌≡◌, sym, ap, ◌∙◌}
 use mathlib.Core.List.{List}
 use Prim.Native.Nat.{ℕ, ◌+◌, ◌≤◌, ◌<◌}
 use native.Mathlib.Numerals.{add-one}
-use native.Mathlib.Omega.{arith}
 use borrow.Author.Tests.{le-leb}
 use lib.ListN.{length, get_or, drop, drop_of_length-le}
 use lib.Seq.{drop-cons}
 use Rattle.base.specs.Laws.Tests.{passed}
 use Rattle.circuit.specs.declared.questions.Progress.{Progress}
 use Rattle.circuit.specs.Valid.{after_word, onward, valid_from, validated}
-use Rattle.base.specs.Laws.WaysOut.{waysOut}
 use Rattle.circuit.proofs.questions.validate.Goals as goal
 
 -- a turn: what stands at index i decides, and the rest is asked from i + 1
@@ -25,31 +23,21 @@ fits : (ws : List ℕ) → length ws ≤ 16384 → valid_from 0 0 0 ws ≡ valid
 unfolding validated
 fits ws h = passed _ _ _ (le-leb _ _ h)
 
-pub returns-then-listing-gt16384 : goal.returns-then-listing-gt16384
-unfolding validated
-returns-then-listing-gt16384 c = search waysOut
-
-pub loop-i-init : goal.loop-i-init
-loop-i-init c = (omega arith, refl)
-
 pub returns-in-Stop : goal.returns-in-Stop
 returns-in-Stop c =
     let t = c.loop-i in
     sym (turn _ t.i t.low t.kind _ c.loop-i-test.true
     (sym c.in-Stop.is ∙ c.after_word.ensures))
-    ∙ t.invariant.1 ∙ fits _ c.if-listing-gt16384.false
+    ∙ t.invariant ∙ fits _ c.if-listing-gt16384.false
 
 pub loop-i-preserved : goal.loop-i-preserved
 loop-i-preserved c =
-    let t = c.loop-i in (
-      omega arith,
-      sym (turn _ t.i t.low t.kind _ c.loop-i-test.true (sym c.in-Go.is ∙ c.after_word.ensures))
-          ∙ t.invariant.1,
-    )
+    let t = c.loop-i in
+    sym (turn _ t.i t.low t.kind _ c.loop-i-test.true (sym c.in-Go.is ∙ c.after_word.ensures)) ∙ t.invariant
 
 pub returns : goal.returns
 unfolding valid_from
 returns c =
     let t = c.loop-i in
     sym (ap (valid_from t.i t.low t.kind) (drop_of_length-le _ c.loop-i-test.false))
-    ∙ t.invariant.1 ∙ fits _ c.if-listing-gt16384.false
+    ∙ t.invariant ∙ fits _ c.if-listing-gt16384.false
