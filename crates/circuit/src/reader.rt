@@ -50,7 +50,8 @@ pub struct Opened<'a> {
     pub reader: ListingReader<'a>,
 }
 
-// Where a row stands, or question 13's refusal, and the row's words: none where it was refused.
+// Where a row stands, or question 13's refusal, and the row's words: none where it was refused. `AnswersRow` speaks of both fields, so
+// the words stand beside the place and not in it.
 #[derive(Clone, Copy)]
 pub struct RowAnswer<'a> {
     pub place: Found,

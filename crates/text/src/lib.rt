@@ -21,6 +21,7 @@ pub fn decimal_digits(n: usize) -> Decimal
     bytes[19] = b'0' + (n % 10) as u8;
     let mut start: usize = 19;
     let mut rest = n / 10;
+    // As many turns as digits are left: no range knows their number beforehand.
     while 0 < rest {
         start -= 1;
         bytes[start] = b'0' + (rest % 10) as u8;
