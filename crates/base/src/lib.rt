@@ -8,10 +8,8 @@ ghost use Rattle.base.specs.Written.{Written, copied};
 pub fn clear_from(s: &mut [u64], start: usize)
     ensures { Written (λ _. 0) start (length s.old) s.old s.new }
 {
-    let mut k = start;
-    while k < s.len() {
-        s[k] = 0;
-        k = k + 1;
+    if start < s.len() {
+        s[start..].fill(0);
     }
 }
 
@@ -19,7 +17,7 @@ pub fn clear_from(s: &mut [u64], start: usize)
 pub fn clear(s: &mut [u64])
     ensures { s.new ≡ replicate (length s.old) 0 }
 {
-    clear_from(s, 0);
+    s.fill(0);
 }
 
 // Writes words one after the other from `start` on. What does not fit is not written.
@@ -27,13 +25,9 @@ pub fn copy_at(words: &[u64], s: &mut [u64], start: usize)
     ensures { Written (copied words.now start s.old) start (length s.old)
         s.old s.new }
 {
-    let mut k = start;
-    while k < s.len() {
-        if words.len() <= k - start {
-            return;
-        }
-        s[k] = words[k - start];
-        k = k + 1;
+    if start < s.len() {
+        let n = words.len().min(s.len() - start);
+        s[start..start + n].copy_from_slice(&words[..n]);
     }
 }
 
@@ -41,15 +35,12 @@ pub fn copy_at(words: &[u64], s: &mut [u64], start: usize)
 pub fn same_words(a: &[u32], b: &[u32]) -> bool
     ensures { (result ≡ true) ↔ (a.now ≡ b.now) }
 {
-    let n = b.len();
-    if a.len() != n {
+    if a.len() != b.len() {
         return false;
     }
-    let mut different: u32 = 0;
-    let mut i: usize = 0;
-    while i < n {
-        different = different | (a[i] ^ b[i]);
-        i = i + 1;
+    let mut different = 0;
+    for (x, y) in a.iter().zip(b) {
+        different |= x ^ y;
     }
     different == 0
 }

@@ -30,6 +30,7 @@ pub struct CycleRow {
 }
 
 // The batch row of a mark's row.
+#[tactic(auto, unfolding(crate::specs::Batched::row_in))]
 fn row_in_cycle(
     relation: Relation,
     row: usize,
@@ -71,6 +72,7 @@ fn term_in_cycle(
 }
 
 // Total: questions 1, 7, 9 (a fld row above 31) and 15, and then the batch row, or the side, coefficient and batch column.
+#[tactic(auto, unfolding(crate::specs::Batched::batched))]
 pub fn build_circuit_batched(cpi: usize, cycle: usize, w: u32) -> Result<BatchWord, Refusal>
     ensures { result ≡ batched cpi cycle w }
 {
@@ -92,6 +94,7 @@ pub fn build_circuit_batched(cpi: usize, cycle: usize, w: u32) -> Result<BatchWo
 }
 
 // The way back: which row of which cycle a batch row is. Total: questions 1 and 14 (a batch row that the batch does not have).
+#[tactic(auto, unfolding(crate::specs::Batched::unmapped_row))]
 pub fn unmap_row(cpi: usize, relation: Relation, batch_row: usize) -> Result<CycleRow, Refusal>
     ensures { result ≡ unmapped_row cpi relation batch_row }
 {

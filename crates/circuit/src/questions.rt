@@ -8,57 +8,50 @@ use layout::{Question, Refusal};
 // What is known after some words: low is the least place that the next mark may have in the order of marks, 0 before the first; kind
 // is that of the last term of the row.
 #[derive(Clone, Copy)]
-enum Progress {
-    Go { low: u32, kind: u32 },
-    Stop { question: Question },
+struct Progress {
+    low: u32,
+    kind: u32,
 }
 
 // Question 9.
-fn after_mark(low: u32, w: u32) -> Progress
+#[tactic(auto, unfolding(crate::specs::Valid::after_mark))]
+fn after_mark(low: u32, w: u32) -> Result<Progress, Question>
     ensures { result ≡ after_mark low w }
 {
     let order = (w >> 29) % 2 * 512 + w % 512;
     if order < low {
-        return Progress::Stop {
-            question: Question::MarkOrder,
-        };
+        return Err(Question::MarkOrder);
     }
     if 543 < order {
-        return Progress::Stop {
-            question: Question::MarkOrder,
-        };
+        return Err(Question::MarkOrder);
     }
-    Progress::Go {
+    Ok(Progress {
         low: order + 1,
         kind: 0,
-    }
+    })
 }
 
 // Questions 8 and 10.
-fn after_term(low: u32, kind: u32, w: u32) -> Progress
+#[tactic(auto, unfolding(crate::specs::Valid::after_term))]
+fn after_term(low: u32, kind: u32, w: u32) -> Result<Progress, Question>
     ensures { result ≡ after_term low kind w }
 {
     if low == 0 {
-        return Progress::Stop {
-            question: Question::FirstMark,
-        };
+        return Err(Question::FirstMark);
     }
     if w >> 30 < kind {
-        return Progress::Stop {
-            question: Question::TermOrder,
-        };
+        return Err(Question::TermOrder);
     }
-    Progress::Go { low, kind: w >> 30 }
+    Ok(Progress { low, kind: w >> 30 })
 }
 
 // Question 7, and then those of a mark or of a term.
-fn after_word(low: u32, kind: u32, w: u32) -> Progress
+#[tactic(auto, unfolding(crate::specs::Valid::after_word))]
+fn after_word(low: u32, kind: u32, w: u32) -> Result<Progress, Question>
     ensures { result ≡ after_word low kind w }
 {
     if !words::is_clean(w) {
-        return Progress::Stop {
-            question: Question::WordBits,
-        };
+        return Err(Question::WordBits);
     }
     if 2 < w >> 30 {
         after_mark(low, w)
@@ -68,6 +61,7 @@ fn after_word(low: u32, kind: u32, w: u32) -> Progress
 }
 
 // Is the listing in order? The first word that is not gives the number and its place.
+#[tactic(auto, unfolding(crate::specs::Valid::validated))]
 pub fn validate(listing: &[u32]) -> Result<(), Refusal>
     ensures { result ≡ validated listing.now }
 {
@@ -76,18 +70,11 @@ pub fn validate(listing: &[u32]) -> Result<(), Refusal>
     }
     let mut low: u32 = 0;
     let mut kind: u32 = 0;
-    let mut i: usize = 0;
-    while i < listing.len() {
-        match after_word(low, kind, listing[i]) {
-            Progress::Go { low: l, kind: k } => {
-                low = l;
-                kind = k;
-            }
-            Progress::Stop { question } => {
-                return Err(Refusal { question, place: i });
-            }
+    for (i, w) in listing.iter().enumerate() {
+        match after_word(low, kind, *w) {
+            Ok(next) => (low, kind) = (next.low, next.kind),
+            Err(question) => return Err(Refusal { question, place: i }),
         }
-        i = i + 1;
     }
     Ok(())
 }

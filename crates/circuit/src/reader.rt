@@ -12,7 +12,7 @@ fn admit<'a>(listing: &'a [u32], asked: Result<(), Refusal>) -> &'a [u32]
 {
     match asked {
         Ok(()) => listing,
-        Err(_) => &listing[0..0],
+        Err(_) => &[],
     }
 }
 
@@ -50,7 +50,8 @@ pub struct Opened<'a> {
     pub reader: ListingReader<'a>,
 }
 
-// Where a row stands, or question 13's refusal, and the row's words. An enum can hold no reference, so the part stands beside it.
+// Where a row stands, or question 13's refusal, and the row's words: none where it was refused. `AnswersRow` speaks of both fields, so
+// the words stand beside the place and not in it.
 #[derive(Clone, Copy)]
 pub struct RowAnswer<'a> {
     pub place: Result<Place, Refusal>,
@@ -62,37 +63,31 @@ impl<'a> ListingReader<'a> {
         ensures { OpensTo listing.now result }
     {
         let asked = questions::validate(listing);
-        let words = admit(listing, asked);
-        Opened {
-            asked,
-            reader: ListingReader {
-                listing: words,
-                position: 0,
-            },
-        }
+        let reader = ListingReader {
+            listing: admit(listing, asked),
+            position: 0,
+        };
+        Opened { asked, reader }
     }
 
     // The search starts at the first word, wherever the position is.
     pub fn row(&mut self, relation: Relation, row: usize) -> RowAnswer<'a>
         ensures { AnswersRow self.old relation row result self.new }
     {
-        let listing = self.listing;
-        let position = self.position;
-        let place = search::find_row(listing, relation, row);
-        self.position = position_after(place, position);
+        let place = search::find_row(self.listing, relation, row);
+        self.position = position_after(place, self.position);
         RowAnswer {
             place,
-            part: search::part_at(listing, place),
+            part: search::part_at(self.listing, place),
         }
     }
 }
 
-// A listing is opened and asked for one row, on plain words and numbers: what `open` and then `row` come to, by the functions that
-// they stand on, so that whoever calls it needs no proof by hand.
+// A listing is opened and asked for one row: where it stands, or the first refusal.
 pub fn read_row(listing: &[u32], relation: Relation, row: usize) -> Result<Place, Refusal>
     ensures { result ≡ row_read listing.now relation row }
 {
-    let asked = questions::validate(listing);
-    let place = search::find_row(admit(listing, asked), relation, row);
-    row_of(asked, place)
+    let opened = ListingReader::open(listing);
+    let mut reader = opened.reader;
+    row_of(opened.asked, reader.row(relation, row).place)
 }

@@ -33,33 +33,13 @@ fn mark_word(relation: Relation, row: u32) -> u32
     }
 }
 
-// Where the word w stands first, or the number of words where it does not.
-fn index_of(listing: &[u32], w: u32) -> usize
-    ensures { result ≡ until (is_word w) listing.now }
-{
-    let mut i: usize = 0;
-    while i < listing.len() {
-        if listing[i] == w {
-            return i;
-        }
-        i = i + 1;
-    }
-    i
-}
-
 // Where the next mark stands from i on, or the number of words.
 fn next_mark(listing: &[u32], i: usize) -> usize
     requires { i ≤ length listing.now }
     ensures { result ≡ i + until is_mark (drop i listing.now) }
 {
-    let mut k = i;
-    while k < listing.len() {
-        if 2 < listing[k] >> 30 {
-            return k;
-        }
-        k = k + 1;
-    }
-    k
+    let rest = &listing[i..];
+    i + rest.iter().position(|w| 2 < *w >> 30).unwrap_or(rest.len())
 }
 
 // Where a row starts and ends.
@@ -69,28 +49,19 @@ pub fn find_row(listing: &[u32], relation: Relation, row: usize) -> Result<Place
     if rows_a_cycle(relation) <= row {
         return Err(Question::RowSought.refused());
     }
-    let start = index_of(listing, mark_word(relation, row as u32));
-    if listing.len() <= start {
+    let mark = mark_word(relation, row as u32);
+    let Some(start) = listing.iter().position(|w| *w == mark) else {
         return Err(Question::RowSought.refused());
-    }
+    };
     let end = next_mark(listing, start + 1);
     Ok(Place { start, end })
 }
 
 // The words from start on, up to but not including end, as far as the listing has them.
-fn words_between<'a>(listing: &'a [u32], start: usize, end: usize) -> &'a [u32]
+fn words_between(listing: &[u32], start: usize, end: usize) -> &[u32]
     ensures { result.now ≡ take (end - start) (drop start listing.now) }
 {
-    if end <= start {
-        return &listing[0..0];
-    }
-    if listing.len() <= start {
-        return &listing[0..0];
-    }
-    if listing.len() < end {
-        return &listing[start..];
-    }
-    &listing[start..end]
+    listing.get(start..end.min(listing.len())).unwrap_or(&[])
 }
 
 // The words of a place that was found, and none where it was not.
@@ -99,7 +70,7 @@ pub fn part_at<'a>(listing: &'a [u32], place: Result<Place, Refusal>) -> &'a [u3
 {
     match place {
         Ok(place) => words_between(listing, place.start, place.end),
-        Err(_) => &listing[0..0],
+        Err(_) => &[],
     }
 }
 

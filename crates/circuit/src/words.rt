@@ -28,6 +28,7 @@ fn side_of(w: u32) -> Side
 }
 
 // Question 7: the must-be-zero bits of a word are zero.
+#[tactic(auto, unfolding(crate::specs::Words::clean_of))]
 pub fn is_clean(w: u32) -> bool
     ensures { result ≡ clean_of w }
 {
@@ -61,6 +62,7 @@ pub fn coefficient_of(w: u32) -> Coefficient
 }
 
 // Every word stands for a mark or a term; the bits that question 7 wants to be zero are passed over.
+#[tactic(auto, unfolding(crate::specs::Words::word_of))]
 pub fn read_word(w: u32) -> Word
     ensures { result ≡ word_of w }
 {

@@ -135,10 +135,8 @@ impl Gf128 {
             return self.shl(k);
         }
         let mut r = self;
-        let mut i: u32 = 0;
-        while i < k {
+        for _ in 0..k {
             r = r.times_t();
-            i += 1;
         }
         r
     }

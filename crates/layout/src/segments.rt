@@ -1,69 +1,72 @@
-// The segments of `SEGMENTS_CPU`: name, start and length, each in an array of its own. A start is the column that `WITNESS_LAYOUT`
-// gives, since sums of the lengths would put fetch at 808.
-ghost use Rattle.std.specs.Prelude.{◌≡◌, ◌≤◌};
-ghost use Rattle.layout.specs.Segments.{segments, segment_names, segment_starts, segment_lengths, segment_at, segment_name, padded};
+// The segments of `SEGMENTS_CPU`, in one table; names, starts and lengths are handed out each in an array of its own.
+ghost use Rattle.std.specs.Prelude.{◌≡◌};
+ghost use Rattle.layout.specs.Segments.{segments, segment_names, segment_starts, segment_lengths, segment_name, padded};
 
 use crate::columns::{
     ALU, CARRY_OFF, EQA, FETCH, FLAGS, LOAD_VAL, OFF, PC, RAM_ADDR, RD, RS1, RS2, SHIFT_OUT,
     SHIFT_SRC, STORE_OLD, STORE_SRC, T1, T2, W_BITS, ZERO,
 };
+use std::array;
 
-// The names, 9 bytes each, filled up with blanks.
+// A segment, its name filled up with blanks.
+#[derive(Clone, Copy)]
+struct Segment {
+    name: [u8; 9],
+    start: usize,
+    length: usize,
+}
+
+// A start is the column that `WITNESS_LAYOUT` gives, since sums of the lengths would put fetch at 808.
+#[rattlefmt::skip]
+const SEGMENTS: [Segment; 19] = [
+    Segment { name: *b"rs1      ", start: RS1, length: W_BITS },
+    Segment { name: *b"rs2      ", start: RS2, length: W_BITS },
+    Segment { name: *b"rd       ", start: RD, length: W_BITS },
+    Segment { name: *b"load-val ", start: LOAD_VAL, length: W_BITS },
+    Segment { name: *b"shift-out", start: SHIFT_OUT, length: W_BITS },
+    Segment { name: *b"t1       ", start: T1, length: W_BITS },
+    Segment { name: *b"t2       ", start: T2, length: W_BITS },
+    Segment { name: *b"carry    ", start: CARRY_OFF, length: W_BITS },
+    Segment { name: *b"alu      ", start: ALU, length: W_BITS },
+    Segment { name: *b"shift-src", start: SHIFT_SRC, length: W_BITS },
+    Segment { name: *b"store-old", start: STORE_OLD, length: W_BITS },
+    Segment { name: *b"store-src", start: STORE_SRC, length: W_BITS },
+    Segment { name: *b"flags    ", start: FLAGS, length: 16 },
+    Segment { name: *b"off      ", start: OFF, length: 8 },
+    Segment { name: *b"ram-addr ", start: RAM_ADDR, length: 8 },
+    Segment { name: *b"pc       ", start: PC, length: 8 },
+    Segment { name: *b"fetch    ", start: FETCH, length: 64 },
+    Segment { name: *b"eqaux    ", start: EQA, length: 64 },
+    Segment { name: *b"crossaux ", start: ZERO, length: 1024 },
+];
+
+// The names, 9 bytes each.
 pub fn segment_names() -> [u8; 171]
     ensures { result ≡ segment_names segments }
 {
-    *b"rs1      rs2      rd       load-val shift-outt1       t2       carry    alu      shift-srcstore-oldstore-srcflags    off      ram-addr pc       fetch    eqaux    crossaux "
+    array::from_fn(|k| SEGMENTS[k / 9].name[k % 9])
 }
 
 pub fn segment_starts() -> [usize; 19]
     ensures { result ≡ segment_starts segments }
 {
-    [
-        RS1, RS2, RD, LOAD_VAL, SHIFT_OUT, T1, T2, CARRY_OFF, ALU, SHIFT_SRC, STORE_OLD, STORE_SRC,
-        FLAGS, OFF, RAM_ADDR, PC, FETCH, EQA, ZERO,
-    ]
+    SEGMENTS.map(|s| s.start)
 }
 
 pub fn segment_lengths() -> [usize; 19]
     ensures { result ≡ segment_lengths segments }
 {
-    [
-        W_BITS, W_BITS, W_BITS, W_BITS, W_BITS, W_BITS, W_BITS, W_BITS, W_BITS, W_BITS, W_BITS,
-        W_BITS, 16, 8, 8, 8, 64, 64, 1024,
-    ]
-}
-
-// The index of the segment that has the column, or 19 where none has it: the name there is the column's.
-fn segment_index(column: usize) -> usize
-    ensures { (result ≤ 19) × ((segment_at segments result).name ≡ segment_name column) }
-{
-    let starts = segment_starts();
-    let lengths = segment_lengths();
-    let mut i: usize = 0;
-    while i < 19 {
-        let start = starts[i];
-        if (start <= column) & (column < start + lengths[i]) {
-            return i;
-        }
-        i = i + 1;
-    }
-    i
+    SEGMENTS.map(|s| s.length)
 }
 
 // The name of the segment that has the column, and blanks where none has it: in a gap, and from the one column on.
 pub fn segment_name(column: usize) -> [u8; 9]
     ensures { result ≡ padded (segment_name column) }
 {
-    let mut name = *b"         ";
-    let i = segment_index(column);
-    if i == 19 {
-        return name;
+    for s in &SEGMENTS {
+        if (s.start <= column) & (column < s.start + s.length) {
+            return s.name;
+        }
     }
-    let names = segment_names();
-    let mut k: usize = 0;
-    while k < 9 {
-        name[k] = names[9 * i + k];
-        k = k + 1;
-    }
-    name
+    *b"         "
 }

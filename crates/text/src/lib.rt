@@ -1,7 +1,7 @@
 // Text in bytes of ASCII: numbers as digits, and texts put one behind the other into lent bytes.
 #![tactic(auto)]
 
-ghost use Rattle.std.specs.Prelude.{◌≡◌, ◌<◌, ◌+◌, ◌-◌, get_or};
+ghost use Rattle.std.specs.Prelude.{◌≡◌, ◌<◌};
 ghost use Rattle.base.specs.Text.{left};
 ghost use Rattle.text.specs.Digits.{decimal, hex_digit, hex};
 ghost use Rattle.text.specs.Decimal.{decimal_of};
@@ -21,10 +21,11 @@ pub fn decimal_digits(n: usize) -> Decimal
     bytes[19] = b'0' + (n % 10) as u8;
     let mut start: usize = 19;
     let mut rest = n / 10;
+    // As many turns as digits are left: no range knows their number beforehand.
     while 0 < rest {
-        start = start - 1;
+        start -= 1;
         bytes[start] = b'0' + (rest % 10) as u8;
-        rest = rest / 10;
+        rest /= 10;
     }
     Decimal { bytes, start }
 }
@@ -45,27 +46,12 @@ pub fn hex_digits(n: u64) -> [u8; 16]
     ensures { result ≡ hex 16 n }
 {
     let mut digits = [b'0'; 16];
-    let mut i: usize = 16;
     let mut rest = n;
-    while 0 < i {
-        i = i - 1;
+    for i in (0..16).rev() {
         digits[i] = hex_digit(rest % 16);
-        rest = rest / 16;
+        rest /= 16;
     }
     digits
-}
-
-// How many bytes a text of so many takes in a width.
-fn length_in(width: usize, length: usize) -> usize
-    ensures { result ≡ length + (width - length) }
-{
-    if length < width { width } else { length }
-}
-
-fn byte_or_blank(part: &[u8], i: usize) -> u8
-    ensures { result ≡ get_or part.now i 0x20 }
-{
-    if i < part.len() { part[i] } else { b' ' }
 }
 
 // Puts a text at an index, left-aligned in a width, and gives the index behind it. Where it does not fit nothing is put, and the
@@ -73,18 +59,13 @@ fn byte_or_blank(part: &[u8], i: usize) -> u8
 pub fn put_left(out: &mut [u8], at: usize, width: usize, part: &[u8]) -> usize
     ensures { Put at (left width part.now) out.old out.new result }
 {
-    let n = length_in(width, part.len());
-    if out.len() < at {
+    let n = part.len().max(width);
+    if out.len() < at || out.len() - at < n {
         return at;
     }
-    if out.len() - at < n {
-        return at;
-    }
-    let mut i: usize = 0;
-    while i < n {
-        out[at + i] = byte_or_blank(part, i);
-        i = i + 1;
-    }
+    let end = at + part.len();
+    out[at..end].copy_from_slice(part);
+    out[end..at + n].fill(b' ');
     at + n
 }
 

@@ -1,24 +1,20 @@
 -- `base::same_words` meets its contract: what differs so far is 0 exactly where the words passed are the same.
 -- Assumes nothing.
-use mathlib.Core.Path.{◌≡◌, refl, subst}
-use mathlib.Core.Logic.{◌↔◌}
-use Prim.Native.Nat.{ℕ}
-use native.Mathlib.Omega.{arith}
-use Rattle.base.specs.Laws.Compared.{SameBelow, compared-none, compared-more, compared-all, other_length}
-use borrow.Author.Rules.{rules}
+use Rattle.std.proofs.Common.{length, arith}
+use Rattle.std.proofs.lemmas.Slice.Zip.{zip_turn, zip_end}
+use Rattle.std.proofs.lemmas.List.{length_push}
+use Rattle.base.specs.Laws.Compared.{compared-more, compared-all}
 use Rattle.base.proofs.same_words.Goals as goal
 
-pub returns-then-a-n : goal.returns-then-a-n
-returns-then-a-n c = other_length _ _ _ c.if-a-n.true refl
-
-pub loop-i-init : goal.loop-i-init
-loop-i-init c = search (compared-none, rules)
-
-pub loop-i-preserved : goal.loop-i-preserved
-loop-i-preserved c = search (compared-more, rules)
+pub loop-x-preserved : goal.loop-x-preserved
+loop-x-preserved c =
+    let l = c.loop-x in
+    let t = zip_turn c.args.a.now c.args.b.now l.yielded c.into_iter-x-iterator.result l.x-iterator c.next.new.self _ (cc) (cc c.zip-x-items.ensures.second.0) l.yielded_by _ c.in-Some.is c.next.ensures.steps in
+    let more = compared-more c.args.a.now c.args.b.now (length l.yielded) l.different l.invariant in
+    rw (length_push, t.2 0, t.3 0) more
 
 pub returns : goal.returns
 returns c =
-    let l = c.loop-i in let given = c.args in let a = given.a.now in let b = given.b.now in
-    compared-all a b _ l.different c.if-a-n.false refl
-    (subst (λ (n : ℕ). (l.different ≡ 0) ↔ SameBelow a b n) (omega (arith, l.invariant.0, c.loop-i-test.false)) l.invariant.1)
+    let l = c.loop-x in
+    let e = zip_end c.args.a.now c.args.b.now l.yielded c.into_iter-x-iterator.result l.x-iterator c.next.new.self _ (cc) (cc c.zip-x-items.ensures.second.0) l.yielded_by c.in-None.is c.next.ensures.steps in
+    compared-all c.args.a.now c.args.b.now (length l.yielded) l.different (omega arith) (omega arith) l.invariant

@@ -1,15 +1,11 @@
 -- `text::decimal_digits` meets its contract: the last digit first, and what is left of the number goes before the digits that stand.
 -- Assumes nothing.
 use borrow.Author.Rules.{rules}
-use Rattle.text.specs.Laws.Decimal.{begun, begun-room, begun_more, begun_all}
+use Rattle.text.specs.Laws.Decimal.{begun, begun_more, begun_all}
 use Rattle.text.proofs.decimal_digits.Goals as goal
 
 pub loop-rest-init : goal.loop-rest-init
 loop-rest-init c = search (begun, rules)
-
-pub overflow_sub-start : goal.overflow_sub-start
-overflow_sub-start c = search
-    (begun-room, rules)
 
 pub loop-rest-preserved : goal.loop-rest-preserved
 loop-rest-preserved c = search (begun_more, rules)

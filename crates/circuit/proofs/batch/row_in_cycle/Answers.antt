@@ -1,38 +1,20 @@
 -- `circuit::batch::row_in_cycle` meets its contract: each way out peels off the questions before it, and a batch row is at most 512 * 256.
 -- Assumes nothing.
-use mathlib.Core.Path.{◌≡◌, ap, ◌∙◌}
-use borrow.Author.Tests.{lt-ltb, le-ltb}
+use mathlib.Core.Path.{◌≡◌, ap}
 use Prim.Native.Nat.{ℕ, ◌+◌, ◌*◌, ◌<◌}
 use mathlib.Core.Bool.{true}
 use native.Mathlib.Omega.{arith}
 use Rattle.layout.specs.Batch.{allowed}
-use Rattle.base.specs.Laws.Tests.{passed, refused}
 use Rattle.circuit.specs.declared.Relation.{Relation}
-use Rattle.circuit.specs.declared.batch.BatchWord.TheVariants.{Row}
 use Rattle.circuit.specs.Found.{rows_a_cycle}
-use Rattle.circuit.specs.Batched.{row_in}
 use Rattle.circuit.proofs.Laws.BatchRows.{batch-row-below, batch-rows-at-most}
 use Rattle.circuit.proofs.batch.row_in_cycle.Goals as goal
-use Rattle.std.specs.Prelude.{Ok, Err}
 
 -- with what stands before it, a batch row is below the batch's rows
 bound : (rel : Relation) (n d r : ℕ) {cpi : ℕ} → n ≡ rows_a_cycle rel → allowed cpi ≡ true → d < cpi → r < n → n * d + r < 131072
 bound rel n d r {cpi} e ok hd hr =
     omega
     (arith, ap (λ (k : ℕ). k * d) e, batch-row-below cpi ok rel d r hd (omega arith), batch-rows-at-most cpi ok rel)
-
-pub returns-then-rows-row : goal.returns-then-rows-row
-unfolding row_in
-returns-then-rows-row c =
-    ap Err c.refused.ensures ∙ (let a = c.args in let e = c.rows_a_cycle-rows.ensures in
-    refused _ _ _ (le-ltb a.row (rows_a_cycle a.relation) (omega arith)))
-
-pub returns-then-cpi-cycle : goal.returns-then-cpi-cycle
-unfolding row_in
-returns-then-cpi-cycle c =
-    ap Err c.refused-then-cpi-cycle.ensures
-    ∙ (let a = c.args in let e = c.rows_a_cycle-rows.ensures in
-    refused _ _ _ (le-ltb _ _ c.if-cpi-cycle.true) ∙ passed _ _ _ (lt-ltb a.row (rows_a_cycle a.relation) (omega arith)))
 
 pub overflow_mul-result : goal.overflow_mul-result
 overflow_mul-result c =
@@ -45,10 +27,3 @@ overflow_add-result c =
     let b = bound c.args.relation _ _ _ c.rows_a_cycle-rows.ensures
     c.requires c.if-cpi-cycle.false c.if-rows-row.false
     in omega arith
-
-pub returns : goal.returns
-unfolding row_in
-returns c =
-    let a = c.args in let e = c.rows_a_cycle-rows.ensures in
-    ap (λ (n : ℕ). Ok (Row a.relation (n * a.cycle + a.row))) e ∙ passed _ _ _ (lt-ltb _ _ c.if-cpi-cycle.false)
-    ∙ passed _ _ _ (lt-ltb a.row (rows_a_cycle a.relation) (omega arith))

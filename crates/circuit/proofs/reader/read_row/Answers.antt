@@ -1,5 +1,5 @@
--- `circuit::reader::read_row` meets its contract: the place is sought in the words that the answers to questions 6 to 10 admit, and where
--- they refuse, `row_of` does not look at it.
+-- `circuit::reader::read_row` meets its contract: the place is sought in the words that the opening admits, and where it refuses, `row_of`
+-- does not look at it.
 -- Assumes nothing.
 use mathlib.Core.Path.{◌≡◌, refl}
 use mathlib.Core.List.{List}
@@ -19,5 +19,4 @@ same_row ws rel n (Err r) = refl
 pub returns : goal.returns
 returns c =
     let ws : List ℕ = c.args.listing.now in
-    let rel : Relation = c.args.relation in
-    cc (same_row ws rel c.args.row c.validate-asked.result)
+    cc (same_row ws c.args.relation c.args.row c.open-opened.result.asked)

@@ -33,21 +33,21 @@ returns-then-same c =
     let none = sym (value-down (128 - a.k) p) ∙ ap value (sym above.ensures ∙ empty) ∙ value-zero in
     c.shl.ensures ∙ shift-is-product x a.k (omega arith) (stays 128 (128 - a.k) a.k (value x) (omega arith) none)
 
-pub loop-i-init : goal.loop-i-init
-loop-i-init c = (omega arith, sym (no-factor c.args.self (omega arith)))
+pub loop-init : goal.loop-init
+loop-init c = (omega arith, sym (no-factor c.args.self (omega arith)))
 
-pub loop-i-preserved : goal.loop-i-preserved
-loop-i-preserved c =
-    let l = c.loop-i in
+pub loop-preserved : goal.loop-preserved
+loop-preserved c =
+    let l = c.loop in
     let x = c.args.self in (
       omega arith,
-      c.times_t-r.ensures ∙ ap (λ (y : Gf128). product y (power 1)) l.invariant.1 ∙ one-factor x l.i (omega arith) (omega arith)
-          ∙ ap (λ (k : ℕ). product x (power k)) (sym (add-one l.i)),
+      c.times_t-r.ensures ∙ ap (λ (y : Gf128). product y (power 1)) l.invariant.1 ∙ one-factor x l.counter (omega arith) (omega arith)
+          ∙ ap (λ (k : ℕ). product x (power k)) (sym (add-one l.counter)),
     )
 
 pub returns : goal.returns
 returns c =
-    let l = c.loop-i in
+    let l = c.loop in
     let a = c.args in
-    let e : l.i ≡ a.k = omega arith in
+    let e : l.counter ≡ a.k = omega arith in
     l.invariant.1 ∙ ap (λ (k : ℕ). product a.self (power k)) e

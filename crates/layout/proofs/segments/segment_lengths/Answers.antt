@@ -1,9 +1,12 @@
--- `layout::segments::segment_lengths` meets its contract: the lengths are computed from the segments.
+-- `layout::segments::segment_lengths` meets its contract: the lengths are those of the rows.
 -- Assumes nothing.
-use mathlib.Core.Path.{refl}
+use borrow.Author.Rules.{rules}
 use Rattle.layout.specs.Segments.{segments}
+use Rattle.layout.proofs.Table.{no_row, lengths_read}
 use Rattle.layout.proofs.segments.segment_lengths.Goals as goal
 
 pub returns : goal.returns
 unfolding segments
-returns c = refl
+returns c =
+    let m = c.map.ensures.items in
+    lengths_read c.map.result m.long (λ k h. let t = (m.at k no_row 0 h).2 in search rules)
