@@ -69,16 +69,17 @@ fn side_sum(
     ensures { SideSummed (cycle_of cpi batch.now cycle) listing.now from side result }
 {
     let mut sum = Gf128::zero();
-    let mut i = from;
-    while i < listing.len() {
+    for i in from..listing.len() {
         let w = listing[i];
         if circuit::words::side_kind(side) < w >> 30 {
             return SideSum { sum, end: i };
         }
         sum = sum.add(term(cpi, batch, cycle, w));
-        i = i + 1;
     }
-    SideSum { sum, end: i }
+    SideSum {
+        sum,
+        end: listing.len(),
+    }
 }
 
 // The sums of a row, whose terms stand from `from` on, in the order that question 10 asks for.

@@ -2,7 +2,7 @@
 -- sorted.
 -- Assumes nothing.
 use mathlib.Core.Path.{sym, ap, subst, ◌∙◌}
-use Rattle.layout.specs.Laws.Questions.{if_yes_lem, asking}
+use Rattle.layout.specs.Laws.Questions.{if_yes_lem}
 use Rattle.verdict.specs.declared.ApplyAnswer.TheVariants.{Refused}
 use Rattle.verdict.specs.Apply.{RowFound, applied_at}
 use Rattle.verdict.specs.Laws.Apply.{row-found}
@@ -12,9 +12,6 @@ pub apply_row-requires : goal.apply_row-requires
 apply_row-requires c =
     let p = c.requires in
     (p.0, (p.1, subst (RowFound _) (sym c.find_row.ensures) (row-found _ _ _ (sym c.validate.ensures ∙ c.in-Yes.is))))
-
-pub returns-in-No : goal.returns-in-No
-returns-in-No c = search asking
 
 pub returns-in-Yes : goal.returns-in-Yes
 returns-in-Yes c =
