@@ -28,8 +28,8 @@ returns-then-cpi-cycle c =
 
 pub write_pages-requires : goal.write_pages-requires
 write_pages-requires c =
-    let p = c.requires in let w = row_read_lem _ _ _ _ _ (sym c.read_row.ensures ∙ c.in-At.is) in
-    (record { size = p.0; inside = c.if-cpi-cycle.false; words = p.1 }, (w.0, (w.1, c.if-page-bytes_of_lines.false ∙ c.bytes_of_lines.ensures)))
+    let w = row_read_lem _ _ _ _ _ (sym c.read_row.ensures ∙ c.in-At.is) in
+    (w.0, (w.1, c.if-page-bytes_of_lines.false ∙ c.bytes_of_lines.ensures))
 
 pub returns-in-Refused : goal.returns-in-Refused
 returns-in-Refused c =

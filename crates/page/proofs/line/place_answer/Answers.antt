@@ -4,9 +4,6 @@ use native.Mathlib.Omega.{arith}
 use Rattle.text.specs.Laws.Put.{placed-then}
 use Rattle.page.proofs.line.place_answer.Goals as goal
 
-pub returns-in-Judged : goal.returns-in-Judged
-returns-in-Judged c = rw c.in-Judged.is c.place_verdict.ensures
-
 pub returns-in-Refused : goal.returns-in-Refused
 returns-in-Refused c =
     rw c.in-Refused.is
