@@ -91,12 +91,8 @@ pub fn show(bytes: &[u8], out: &mut [u8]) -> usize
     match answer {
         CheckAnswer::Refused(_) => page::line::put_answer(out, 0, answer),
         CheckAnswer::Judged(v) => match v {
-            Verdict::Accepted { counts: _ } => page::line::put_answer(out, 0, answer),
-            Verdict::Failed {
-                relation,
-                row,
-                counts: _,
-            } => put_failing(out, bytes, relation, row),
+            Verdict::Accepted { .. } => page::line::put_answer(out, 0, answer),
+            Verdict::Failed { relation, row, .. } => put_failing(out, bytes, relation, row),
         },
     }
 }
