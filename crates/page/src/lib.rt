@@ -11,8 +11,9 @@ ghost use Rattle.circuit.specs.Found.{rows_a_cycle};
 ghost use Rattle.circuit.specs.Reader.{row_read};
 ghost use Rattle.page.specs.Lines.{row_lines};
 ghost use Rattle.page.specs.Pages.{Laid, page_bytes, pages, sides_at, bytes_for, laid_at, laid_out};
-ghost use Rattle.page.specs.Promises.{InBatch, RowAt};
+ghost use Rattle.page.specs.Promises.{RowAt};
 
+use crate::lines::Cycle;
 use circuit::Relation;
 use circuit::search::rows_a_cycle;
 use layout::{Question, Refusal};
@@ -35,23 +36,21 @@ pub fn page_bytes(listing: &[u32], relation: Relation, row: usize) -> Result<usi
 // Writes the pages of a row that was found: its head, its terms, and blanks to the end.
 fn write_pages(
     page: &mut [u8],
-    cpi: usize,
+    cycle: &Cycle,
     listing: &[u32],
-    batch: &[u64],
     relation: Relation,
     row: usize,
-    cycle: usize,
     start: usize,
     end: usize,
 )
-    requires { InBatch cpi cycle batch.now × (RowAt listing.now start end
-        × ((row < rows_a_cycle relation) × (length page.old ≡ page_bytes (end - start)))) }
+    requires { RowAt listing.now start end
+        × ((row < rows_a_cycle relation) × (length page.old ≡ page_bytes (end - start))) }
     ensures { page.new
-        ≡ pages (row_lines cpi batch.now cycle relation row (sides_at listing.now start)) }
+        ≡ pages (row_lines cycle.now.cpi cycle.now.batch.now cycle.now.number relation row (sides_at listing.now start)) }
 {
-    let number = rows_a_cycle(relation) * cycle + row;
+    let number = rows_a_cycle(relation) * cycle.number + row;
     let head = lines::put_head(page, relation, number);
-    let last = lines::put_words(page, head, cpi, batch, cycle, listing, start + 1, end);
+    let last = lines::put_words(page, head, cycle, &listing[start + 1..end]);
     let rest = page.len() - last;
     text::put_left(page, last, rest, b"");
 }
@@ -78,17 +77,12 @@ fn lay_row(
     if cpi <= cycle {
         return Err(Question::CycleRange.refused());
     }
-    write_pages(
-        page,
+    let at = Cycle {
         cpi,
-        listing,
         batch,
-        relation,
-        row,
-        cycle,
-        place.start,
-        place.end,
-    );
+        number: cycle,
+    };
+    write_pages(page, &at, listing, relation, row, place.start, place.end);
     Ok(())
 }
 

@@ -1,6 +1,6 @@
 // The lines of a bench page. A function here that puts a text at an index supposes room for it, and gives the index behind it. A term's
 // place is its batch column.
-ghost use Rattle.std.specs.Prelude.{◌≡◌, ◌+◌, ◌*◌, ◌-◌, ◌^◌, ◌<◌, ◌≤◌, length, take, drop};
+ghost use Rattle.std.specs.Prelude.{◌≡◌, ◌+◌, ◌*◌, ◌-◌, ◌^◌, ◌<◌, ◌≤◌, length};
 ghost use Rattle.base.specs.Lists.{joined};
 ghost use Rattle.base.specs.Text.{left};
 ghost use Rattle.text.specs.Digits.{right, hex};
@@ -13,6 +13,15 @@ ghost use Rattle.page.specs.Lines.{relation_text, side_text, exponent_text, head
 ghost use Rattle.page.specs.Promises.{InBatch, Short, word_line, word_lines};
 
 use circuit::{Coefficient, Relation, Side, Word};
+
+// A cycle of a batch whose size is in order.
+#[derive(Clone, Copy)]
+pub struct Cycle<'a> {
+    pub cpi: usize,
+    pub batch: &'a [u64],
+    pub number: usize,
+    ghost in_batch: { InBatch cpi number batch.now },
+}
 
 // A text left-aligned in a width.
 fn put_in(page: &mut [u8], at: usize, width: usize, part: &[u8]) -> usize
@@ -90,26 +99,24 @@ fn put_placed(
 fn put_term(
     page: &mut [u8],
     at: usize,
-    cpi: usize,
-    batch: &[u64],
-    cycle: usize,
+    cycle: &Cycle,
     side: Side,
     k: Coefficient,
     column: usize,
 ) -> usize
-    requires { (at + 60 ≤ length page.old) × (InBatch cpi cycle batch.now × ((column < 4096) × Short k)) }
-    ensures { Placed at (term_line cpi batch.now cycle side k column) page.old page.new result
+    requires { (at + 60 ≤ length page.old) × ((column < 4096) × Short k) }
+    ensures { Placed at (term_line cycle.now.cpi cycle.now.batch.now cycle.now.number side k column) page.old page.new result
         × (result ≡ at + 60) }
 {
-    match layout::map_z_col(cpi, column, cycle) {
-        Ok(place) => put_placed(page, at, batch, side, k, column, place),
+    match layout::map_z_col(cycle.cpi, column, cycle.number) {
+        Ok(place) => put_placed(page, at, cycle.batch, side, k, column, place),
         Err(_) => at,
     }
 }
 
-fn put_word(page: &mut [u8], at: usize, cpi: usize, batch: &[u64], cycle: usize, w: u32) -> usize
-    requires { (at + 60 ≤ length page.old) × InBatch cpi cycle batch.now }
-    ensures { Placed at (word_line cpi batch.now cycle (word_of w)) page.old page.new result
+fn put_word(page: &mut [u8], at: usize, cycle: &Cycle, w: u32) -> usize
+    requires { at + 60 ≤ length page.old }
+    ensures { Placed at (word_line cycle.now.cpi cycle.now.batch.now cycle.now.number (word_of w)) page.old page.new result
         × (result ≤ at + 60) }
 {
     match circuit::words::read_word(w) {
@@ -117,35 +124,20 @@ fn put_word(page: &mut [u8], at: usize, cpi: usize, batch: &[u64], cycle: usize,
             side,
             coefficient,
             column,
-        } => put_term(page, at, cpi, batch, cycle, side, coefficient, column),
-        Word::Mark {
-            relation: _,
-            row: _,
-        } => at,
+        } => put_term(page, at, cycle, side, coefficient, column),
+        Word::Mark { .. } => at,
     }
 }
 
-// The lines of the words from `start` on, up to but not including `end`.
-pub fn put_words(
-    page: &mut [u8],
-    at: usize,
-    cpi: usize,
-    batch: &[u64],
-    cycle: usize,
-    listing: &[u32],
-    start: usize,
-    end: usize,
-) -> usize
-    requires { (at + 60 * (end - start) ≤ length page.old)
-        × (InBatch cpi cycle batch.now × ((start ≤ end) × (end ≤ length listing.now))) }
-    ensures { Placed at (joined (word_lines cpi batch.now cycle (take (end - start) (drop start listing.now))))
-        page.old page.new result × (result ≤ at + 60 * (end - start)) }
+// The lines of words of a listing.
+pub fn put_words(page: &mut [u8], at: usize, cycle: &Cycle, words: &[u32]) -> usize
+    requires { at + 60 * length words.now ≤ length page.old }
+    ensures { Placed at (joined (word_lines cycle.now.cpi cycle.now.batch.now cycle.now.number words.now))
+        page.old page.new result × (result ≤ at + 60 * length words.now) }
 {
-    let mut i = start;
     let mut k = at;
-    while i < end {
-        k = put_word(page, k, cpi, batch, cycle, listing[i]);
-        i = i + 1;
+    for w in words {
+        k = put_word(page, k, cycle, *w);
     }
     k
 }

@@ -29,14 +29,12 @@ fn first_above(batch: &[u64], columns: usize) -> usize
     requires { 2 * columns ≤ length batch.now }
     ensures { result ≡ first_from (above_one batch.now) 0 columns }
 {
-    let mut i: usize = 0;
-    while i < columns {
+    for i in 0..columns {
         if !is_bit_at(batch, i) {
             return i;
         }
-        i = i + 1;
     }
-    i
+    columns
 }
 
 fn place(cpi: usize, at: usize) -> Result<Option<NotBit>, Refusal>

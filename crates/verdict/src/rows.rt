@@ -69,16 +69,17 @@ fn side_sum(
     ensures { SideSummed (cycle_of cpi batch.now cycle) listing.now from side result }
 {
     let mut sum = Gf128::zero();
-    let mut i = from;
-    while i < listing.len() {
+    for i in from..listing.len() {
         let w = listing[i];
         if circuit::words::side_kind(side) < w >> 30 {
             return SideSum { sum, end: i };
         }
         sum = sum.add(term(cpi, batch, cycle, w));
-        i = i + 1;
     }
-    SideSum { sum, end: i }
+    SideSum {
+        sum,
+        end: listing.len(),
+    }
 }
 
 // The sums of a row, whose terms stand from `from` on, in the order that question 10 asks for.
@@ -89,11 +90,12 @@ pub fn row_sums(cpi: usize, listing: &[u32], from: usize, batch: &[u64], cycle: 
     let a = side_sum(cpi, listing, from, Side::A, batch, cycle);
     let b = side_sum(cpi, listing, a.end, Side::B, batch, cycle);
     let c = side_sum(cpi, listing, b.end, Side::C, batch, cycle);
-    let x = a.sum;
-    let y = b.sum;
-    let z = c.sum;
     RowSums {
-        sums: Sums { a: x, b: y, c: z },
+        sums: Sums {
+            a: a.sum,
+            b: b.sum,
+            c: c.sum,
+        },
         end: c.end,
     }
 }
@@ -104,10 +106,7 @@ pub fn test_row(cpi: usize, listing: &[u32], from: usize, batch: &[u64], cycle: 
     ensures { RowTested (cycle_of cpi batch.now cycle) listing.now from result }
 {
     let row = row_sums(cpi, listing, from, batch, cycle);
-    let s = row.sums;
-    let a = s.a;
-    let b = s.b;
-    let c = s.c;
+    let Sums { a, b, c } = row.sums;
     Tested {
         holds: a.mul(b).same(c),
         end: row.end,

@@ -9,7 +9,7 @@ ghost use Rattle.verdict.specs.RowParts.{sorted};
 ghost use Rattle.verdict.specs.Counts.{none, counted, rows};
 ghost use Rattle.verdict.specs.Check.{met, run, judged};
 ghost use Rattle.verdict.specs.Order.{is_fld_mark};
-ghost use Rattle.verdict.specs.StillToTest.{part_at, all_parts};
+ghost use Rattle.verdict.specs.StillToTest.{all_parts};
 
 use crate::rows::test_row;
 use crate::{Counts, Verdict};
@@ -28,20 +28,12 @@ fn is_fld_mark(w: u32) -> bool
 fn first_fld(listing: &[u32]) -> usize
     ensures { result ≡ until is_fld_mark listing.now }
 {
-    let mut i: usize = 0;
-    while i < listing.len() {
-        if is_fld_mark(listing[i]) {
+    for (i, w) in listing.iter().enumerate() {
+        if is_fld_mark(*w) {
             return i;
         }
-        i = i + 1;
     }
-    i
-}
-
-fn part_at<'a>(bin: &'a [u32], fld: &'a [u32], relation: usize) -> &'a [u32]
-    ensures { result.now ≡ part_at bin.now fld.now relation }
-{
-    if relation == 0 { bin } else { fld }
+    listing.len()
 }
 
 fn batch_row(relation: Relation, cycle: usize, row: usize) -> usize
@@ -68,39 +60,35 @@ fn one_more(tested: Counts, relation: Relation) -> Counts
     }
 }
 
-// Left by its label at the first row that does not hold.
-fn walk_parts<'a>(cpi: usize, bin: &'a [u32], fld: &'a [u32], batch: &[u64]) -> Verdict
+// Bin rows and then fld rows, in every cycle; left by its label at the first row that does not hold. The label is a block's, as a `for`
+// gives no value.
+fn walk_parts(cpi: usize, bin: &[u32], fld: &[u32], batch: &[u64]) -> Verdict
     requires { (cpi ≤ 256) × ((length batch.now ≡ batch_words cpi)
         × ((length bin.now ≤ 16384) × ((length fld.now ≤ 16384) × ((sorted 3 bin.now ≡ true) × (sorted 3 fld.now ≡ true))))) }
     ensures { result ≡ run (met (cycle_of cpi batch.now)) none (all_parts cpi bin.now fld.now 0) }
 {
     let mut tested = Counts { bin: 0, fld: 0 };
-    let mut relation: usize = 0;
-    'relations: loop {
-        if relation == 2 {
-            break 'relations Verdict::Accepted { counts: tested };
-        }
-        let mut cycle: usize = 0;
-        'cycles: while cycle < cpi {
-            let part = part_at(bin, fld, relation);
-            let mut at: usize = 0;
-            'rows: while at < part.len() {
-                let mark = part[at];
-                let kind = circuit::words::relation_of(mark);
-                let row = test_row(cpi, part, at + 1, batch, cycle);
-                tested = one_more(tested, kind);
-                if !row.holds {
-                    break 'relations Verdict::Failed {
-                        relation: kind,
-                        row: batch_row(kind, cycle, (mark % 512) as usize),
-                        counts: tested,
-                    };
+    'relations: {
+        for part in [bin, fld] {
+            'cycles: for cycle in 0..cpi {
+                let mut at: usize = 0;
+                'rows: while at < part.len() {
+                    let mark = part[at];
+                    let kind = circuit::words::relation_of(mark);
+                    let row = test_row(cpi, part, at + 1, batch, cycle);
+                    tested = one_more(tested, kind);
+                    if !row.holds {
+                        break 'relations Verdict::Failed {
+                            relation: kind,
+                            row: batch_row(kind, cycle, (mark % 512) as usize),
+                            counts: tested,
+                        };
+                    }
+                    at = row.end;
                 }
-                at = row.end;
             }
-            cycle = cycle + 1;
         }
-        relation = relation + 1;
+        Verdict::Accepted { counts: tested }
     }
 }
 

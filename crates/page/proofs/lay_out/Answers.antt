@@ -1,6 +1,5 @@
 -- `page::lay_out` meets its contract: questions 1 and 2, and then those of the row.
 -- Assumes nothing.
-use borrow.Author.Rules.{rules}
 use mathlib.Core.Path.{sym, ◌∙◌}
 use Rattle.layout.specs.Laws.Questions.{asking, batch-yes}
 use Rattle.page.specs.Pages.{laid_out}

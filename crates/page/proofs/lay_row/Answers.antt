@@ -30,8 +30,8 @@ returns-then-cpi-cycle c =
 
 pub write_pages-requires : goal.write_pages-requires
 write_pages-requires c =
-    let p = c.requires in let w = row_read_lem _ _ _ _ _ (sym c.read_row.ensures ∙ c.in_ok-place.was) in
-    (record { size = p.0; inside = c.if-cpi-cycle.false; words = p.1 }, (w.0, (w.1, c.if-page-bytes_of_lines.false ∙ c.bytes_of_lines.ensures)))
+    let w = row_read_lem _ _ _ _ _ (sym c.read_row.ensures ∙ c.in_ok-place.was) in
+    (w.0, (w.1, c.if-page-bytes_of_lines.false ∙ c.bytes_of_lines.ensures))
 
 pub returns-in_err-place : goal.returns-in_err-place
 returns-in_err-place c = search (rules, laid-unread, told, c.in_err-place.was)

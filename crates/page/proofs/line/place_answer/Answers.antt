@@ -5,9 +5,6 @@ use native.Mathlib.Omega.{arith}
 use Rattle.text.specs.Laws.Put.{placed-then}
 use Rattle.page.proofs.line.place_answer.Goals as goal
 
-pub returns-in-Ok : goal.returns-in-Ok
-returns-in-Ok c = rw c.in-Ok.is c.place_verdict.ensures
-
 pub returns-in-Err : goal.returns-in-Err
 returns-in-Err c =
     rw (c.in-Err.is, sym c.number.ensures)

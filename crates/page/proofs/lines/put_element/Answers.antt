@@ -15,7 +15,7 @@ returns c =
     let low = get_or c.args.batch.now (2 * c.args.place) 0 in let high = get_or c.args.batch.now (2 * c.args.place + 1) 0 in (
       placed-as _ _ _ _ _ _
           (ap₂ (λ x y. left 16 x ++ left 20 y) c.hex_digits-high.ensures c.hex_digits-low.ensures
-          ∙ element-digits low high (omega (arith, c.shared_slice_known-1.given (2 * c.args.place))))
+          ∙ element-digits low high (omega (arith, c.type_inv.batch (2 * c.args.place))))
           (placed-then (omega arith) c.put_in-middle.ensures.0 c.put_in.ensures.0),
       omega arith,
     )

@@ -4,12 +4,9 @@ use mathlib.Core.Path.{ap}
 use native.Mathlib.Omega.{arith}
 use lib.ListN.{length}
 use Rattle.base.specs.Text.{left}
-use Rattle.text.specs.Laws.Decimal.{decimal-bytes, decimal-narrow, right-fits, right-length}
+use Rattle.text.specs.Laws.Decimal.{decimal-narrow, right-fits, right-length}
 use Rattle.text.specs.Laws.Put.{placed-as}
 use Rattle.page.proofs.lines.put_right.Goals as goal
-
-pub slice_bounds-put_in-end : goal.slice_bounds-put_in-end
-slice_bounds-put_in-end c = omega (arith, decimal-bytes _ _ c.decimal_digits-digits.ensures)
 
 pub put_in-requires : goal.put_in-requires
 put_in-requires c =

@@ -10,19 +10,18 @@ use Rattle.page.proofs.lines.put_term.Goals as goal
 
 pub put_placed-requires : goal.put_placed-requires
 put_placed-requires c =
-    let b = c.requires.1.0 in
-    let e = placed-column c.args.cpi c.args.column c.args.cycle _ b.size c.requires.1.1.0 b.inside (sym
-    c.map_z_col.ensures ∙ c.in-Ok.is) in
-    let l = column-inside c.args.cpi c.args.column c.args.cycle c.requires.1.1.0 b.inside in
+    let x = c.args.cycle.now in let b = x.in_batch in let p = c.requires in
+    let e = placed-column x.cpi c.args.column x.number _ b.size p.1.0 b.inside (sym c.map_z_col.ensures ∙ c.in-Ok.is) in
+    let l = column-inside x.cpi c.args.column x.number p.1.0 b.inside in
     let w = b.words in let s = allowed-range _ b.size in
-    (c.requires.0, (omega arith, (omega arith, c.requires.1.1.1)))
+    (p.0, (omega arith, (omega arith, p.1.1)))
 
 pub returns-in-Ok : goal.returns-in-Ok
 returns-in-Ok c =
-    let b = c.requires.1.0 in (
+    let x = c.args.cycle.now in let b = x.in_batch in (
       placed-as _ _ _ _ _ _
-          (term-line c.args.cpi c.args.cycle c.args.column _ c.args.batch.now c.args.side c.args.k
-          (placed-column c.args.cpi c.args.column c.args.cycle _ b.size c.requires.1.1.0 b.inside
+          (term-line x.cpi x.number c.args.column _ x.batch.now c.args.side c.args.k
+          (placed-column x.cpi c.args.column x.number _ b.size c.requires.1.0 b.inside
           (sym c.map_z_col.ensures ∙ c.in-Ok.is)))
           c.put_placed.ensures.0,
       c.put_placed.ensures.1,
@@ -30,6 +29,6 @@ returns-in-Ok c =
 
 pub returns-in-Err : goal.returns-in-Err
 returns-in-Err c =
-    let b = c.requires.1.0 in
-    absurd (never-refused c.args.cpi c.args.column c.args.cycle _ b.size c.requires.1.1.0 b.inside
+    let x = c.args.cycle.now in let b = x.in_batch in
+    absurd (never-refused x.cpi c.args.column x.number _ b.size c.requires.1.0 b.inside
     (sym c.map_z_col.ensures ∙ c.in-Err.is))

@@ -1,35 +1,18 @@
 -- `page::lines::put_words` meets its contract: as far as the loop has come, the lines of the words stand one behind the other.
 -- Assumes nothing.
-use mathlib.Core.Path.{◌≡◌, refl}
-use native.Mathlib.Omega.{arith}
+use Rattle.std.proofs.Common.{arith}
+use Rattle.std.proofs.Math.Nat.{sub-zero}
+use Rattle.base.specs.Lists.{joined}
 use Rattle.text.specs.Laws.Put.{placed-then, placed-as, placed-none}
-use Rattle.page.specs.Laws.Terms.{no_lines, one-line-more}
+use Rattle.page.specs.Laws.Terms.{one-line-more}
 use Rattle.page.proofs.lines.put_words.Goals as goal
 
-pub loop-i-init : goal.loop-i-init
-loop-i-init c = (
-  omega arith,
-  c.requires.1.1.0,
-  refl,
-  omega arith,
-  placed-as _ _ _ _ _ _ (no_lines c.args.cpi c.args.batch.now
-      c.args.cycle c.args.listing.now c.args.start) (placed-none _ _),
-)
+pub loop-w-init : goal.loop-w-init
+unfolding joined
+loop-w-init c = (omega arith, placed-none _ _)
 
-pub loop-i-preserved : goal.loop-i-preserved
-loop-i-preserved c =
-    let t = c.loop-i in let a =
-    c in
-    let l = c.put_word-k.ensures.1 in (
-      omega arith,
-      omega arith,
-      omega arith,
-      omega arith,
-      placed-as _ _ _ _ _ _ (one-line-more a.args.cpi a.args.batch.now a.args.cycle a.args.listing.now
-          a.args.start t.i (omega arith) (omega arith))
-          (placed-then (omega arith) t.invariant.4 c.put_word-k.ensures.0),
-    )
-
-pub returns : goal.returns
-returns c = let t = c.loop-i in let e : t.i ≡ c.args.end = omega arith in
-    (rw e at t.invariant.4, omega arith)
+pub loop-w-preserved : goal.loop-w-preserved
+loop-w-preserved c =
+    let t = c.loop-w in let x = c.args.cycle.now in let p = c.put_word-k.ensures in
+    let more = simp sub-zero at (one-line-more x.cpi x.batch.now x.number c.args.words.now 0 t.w-index (omega arith) c.loop-w-test.true) in
+    (omega (arith, p.1), placed-as _ _ _ _ _ _ more (placed-then (omega arith) t.invariant.1 p.0))

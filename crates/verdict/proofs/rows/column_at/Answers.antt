@@ -1,21 +1,11 @@
 -- `verdict::rows::column_at` meets its contract: each branch is the definition's, and a batch has at most 4096 * 256 columns.
 -- Assumes nothing.
 use borrow.Author.Tests.{lt-ltb, le-ltb}
-use native.Mathlib.Nat.{mul-le-mul, mul-le-mul_right}
+use native.Mathlib.Nat.{mul-le-mul_right}
 use native.Mathlib.Omega.{arith}
 use Rattle.layout.specs.Batch.{column_at}
 use Rattle.base.specs.Laws.Tests.{passed, refused}
 use Rattle.verdict.proofs.rows.column_at.Goals as goal
-
-pub overflow_mul-result : goal.overflow_mul-result
-overflow_mul-result c =
-    let a = c.args in
-    omega (arith, mul-le-mul {n₁ = a.column} {m₁ = a.cpi} {n₂ = 4096} {m₂ = 256} (omega arith) (omega arith))
-
-pub overflow_add-result : goal.overflow_add-result
-overflow_add-result c =
-    let a = c.args in
-    omega (arith, mul-le-mul {n₁ = a.column} {m₁ = a.cpi} {n₂ = 4096} {m₂ = 256} (omega arith) (omega arith))
 
 pub returns-then-column-lt2048 : goal.returns-then-column-lt2048
 unfolding column_at

@@ -3,8 +3,9 @@
 use mathlib.Core.Path.{◌≡◌, refl, sym, ap, ◌∙◌}
 use mathlib.Core.Bool.{true, false}
 use mathlib.Core.List.{List, [], ◌∷◌}
+use native.Mathlib.Omega.{arith}
+use lib.ListN.{length}
 use Prim.Native.Nat.{ℕ, ◌≤◌, ◌<◌}
-use borrow.Author.Rules.{rules}
 use borrow.Author.Tests.{lt-ltb, le-ltb}
 use lib.Dec.{ltb}
 use Rattle.field.specs.declared.Gf128.{Gf128}
@@ -39,16 +40,16 @@ module _ (side : Side) (w : ℕ) {kind : ℕ} (e : kind ≡ side_kind side) wher
   is_within h = ap (λ (k : ℕ). ltb k (kind_of w)) (sym e) ∙ le-ltb kind (kind_of w) h
 
 pub loop-i-init : goal.loop-i-init
-loop-i-init c = (search rules, refl, rw c.zero-sum.ensures (zero-add _))
+loop-i-init c = (refl, rw c.zero-sum.ensures (zero-add _))
 
 pub returns-then-side_kind-w : goal.returns-then-side_kind-w
 returns-then-side_kind-w c =
     let t = c.loop-i in let a = c.args in
     let inside = c.loop-i-test.true in let stop = is-behind a.side _ c.side_kind.ensures c.if-side_kind-w.true in
     record {
-      end_is = sym (stops (past a.side) _ t.i inside stop) ∙ t.invariant.1;
-      sum_is = done _ _ (run-stops a.side _ t.i inside stop) t.invariant.2;
-      fits = t.invariant.0;
+      end_is = sym (stops (past a.side) _ t.i inside stop) ∙ t.invariant.0;
+      sum_is = done _ _ (run-stops a.side _ t.i inside stop) t.invariant.1;
+      fits = omega arith;
     }
 
 pub loop-i-preserved : goal.loop-i-preserved
@@ -56,16 +57,16 @@ loop-i-preserved c =
     let t = c.loop-i in
     let a = c.args in
     let inside = c.loop-i-test.true in let go = is_within a.side _ c.side_kind.ensures c.if-side_kind-w.false in (
-      search rules,
-      sym (goes (past a.side) _ t.i inside go) ∙ t.invariant.1,
-      rw (c.add-sum.ensures, c.term.ensures) (more _ _ (run-goes a.side _ t.i inside go) t.invariant.2),
+      sym (goes (past a.side) _ t.i inside go) ∙ t.invariant.0,
+      rw (c.add-sum.ensures, c.term.ensures) (more _ _ (run-goes a.side _ t.i inside go) t.invariant.1),
     )
 
 pub returns : goal.returns
 returns c =
     let t = c.loop-i in let a = c.args in
+    let all : length a.listing.now ≡ t.i = omega arith in
     record {
-      end_is = sym (ends (past a.side) _ t.i c.loop-i-test.false) ∙ t.invariant.1;
-      sum_is = done _ _ (run_ends a.side _ t.i c.loop-i-test.false) t.invariant.2;
-      fits = t.invariant.0;
+      end_is = all ∙ sym (ends (past a.side) _ t.i c.loop-i-test.false) ∙ t.invariant.0;
+      sum_is = done _ _ (run_ends a.side _ t.i c.loop-i-test.false) t.invariant.1;
+      fits = omega arith;
     }

@@ -12,24 +12,18 @@ use Rattle.verdict.specs.StillToTest.{all_parts, left_cycles, left_rows}
 use Rattle.verdict.proofs.walk.walk_parts.Given as goal
 
 abbrev pub invariant-rows : goal.invariant-rows
-invariant-rows l = (l.at ≤ length l.part) × (length l.part ≤ 16384) × (rows l.tested ≤ l.relation * 4194304 + l.cycle * 16384 + l.at) × (sorted 3 (drop l.at l.part) ≡ true)
-    × (run (met (cycle_of l.cpi l.batch)) l.tested (left_rows l.cpi l.bin l.fld l.part l.relation l.cycle l.at)
+invariant-rows l = (l.at ≤ length l.part) × (length l.part ≤ 16384) × (rows l.tested ≤ l.part-index * 4194304 + l.cycle * 16384 + l.at) × (sorted 3 (drop l.at l.part) ≡ true)
+    × (run (met (cycle_of l.cpi l.batch)) l.tested (left_rows l.cpi l.bin l.fld l.part l.part-index l.cycle l.at)
     ≡ run (met (cycle_of l.cpi l.batch)) none (all_parts l.cpi l.bin l.fld 0))
 
 abbrev pub decreases-rows : goal.decreases-rows
 decreases-rows l = length l.part - l.at
 
 abbrev pub invariant-cycles : goal.invariant-cycles
-invariant-cycles l = (l.cycle ≤ l.cpi) × (rows l.tested ≤ l.relation * 4194304 + l.cycle * 16384)
-    × (run (met (cycle_of l.cpi l.batch)) l.tested (left_cycles l.cpi l.bin l.fld l.relation l.cycle)
+invariant-cycles l = (rows l.tested ≤ l.part-index * 4194304 + l.cycle * 16384)
+    × (run (met (cycle_of l.cpi l.batch)) l.tested (left_cycles l.cpi l.bin l.fld l.part-index l.cycle)
     ≡ run (met (cycle_of l.cpi l.batch)) none (all_parts l.cpi l.bin l.fld 0))
 
-abbrev pub decreases-cycles : goal.decreases-cycles
-decreases-cycles l = l.cpi - l.cycle
-
-abbrev pub invariant-relations : goal.invariant-relations
-invariant-relations l = (l.relation ≤ 2) × (rows l.tested ≤ l.relation * 4194304)
-    × (run (met (cycle_of l.cpi l.batch)) l.tested (all_parts l.cpi l.bin l.fld l.relation) ≡ run (met (cycle_of l.cpi l.batch)) none (all_parts l.cpi l.bin l.fld 0))
-
-abbrev pub decreases-relations : goal.decreases-relations
-decreases-relations l = 2 - l.relation
+abbrev pub invariant-loop-part : goal.invariant-loop-part
+invariant-loop-part l = (rows l.tested ≤ l.part-index * 4194304)
+    × (run (met (cycle_of l.cpi l.batch)) l.tested (all_parts l.cpi l.bin l.fld l.part-index) ≡ run (met (cycle_of l.cpi l.batch)) none (all_parts l.cpi l.bin l.fld 0))
