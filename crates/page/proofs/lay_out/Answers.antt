@@ -3,6 +3,7 @@
 use mathlib.Core.Path.{sym, ◌∙◌}
 use Rattle.layout.specs.Laws.Questions.{asking, batch-yes}
 use Rattle.page.specs.Pages.{laid_out}
+use borrow.Author.Rules.{rules}
 use Rattle.page.proofs.lay_out.Goals as goal
 
 pub lay_row-requires : goal.lay_row-requires
