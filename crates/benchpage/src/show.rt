@@ -28,12 +28,9 @@ fn put_lined(out: &mut [u8], text: &[u8]) -> usize
     requires { 61 * (length text.now / 60) ≤ length out.old }
     ensures { Placed 0 (with_line_ends text.now) out.old out.new result }
 {
-    let lines = text.len() / 60;
-    let mut i: usize = 0;
-    let mut at: usize = 0;
-    while i < lines {
-        at = put_line(out, at, &text[60 * i..60 * i + 60]);
-        i = i + 1;
+    let mut at = 0;
+    for line in text.chunks_exact(60) {
+        at = put_line(out, at, line);
     }
     at
 }
@@ -94,12 +91,8 @@ pub fn show(bytes: &[u8], out: &mut [u8]) -> usize
     match answer {
         CheckAnswer::Refused(_) => page::line::put_answer(out, 0, answer),
         CheckAnswer::Judged(v) => match v {
-            Verdict::Accepted { counts: _ } => page::line::put_answer(out, 0, answer),
-            Verdict::Failed {
-                relation,
-                row,
-                counts: _,
-            } => put_failing(out, bytes, relation, row),
+            Verdict::Accepted { .. } => page::line::put_answer(out, 0, answer),
+            Verdict::Failed { relation, row, .. } => put_failing(out, bytes, relation, row),
         },
     }
 }
