@@ -126,10 +126,7 @@ fn put_word(page: &mut [u8], at: usize, cycle: &Cycle, w: u32) -> usize
             coefficient,
             column,
         } => put_term(page, at, cycle, side, coefficient, column),
-        Word::Mark {
-            relation: _,
-            row: _,
-        } => at,
+        Word::Mark { .. } => at,
     }
 }
 

@@ -141,13 +141,12 @@ fn apply_row(cpi: usize, listing: &[u32], batch: &[u64], found: Found, cycle: us
 {
     match found {
         Found::Refused(r) => ApplyAnswer::Refused(r),
-        Found::At { start, end: _ } => {
+        Found::At { start, .. } => {
             if cpi <= cycle {
                 return ApplyAnswer::Refused(layout::refused(15));
             }
             let row = row_sums(cpi, listing, start + 1, batch, cycle);
-            let sums = row.sums;
-            ApplyAnswer::Of(sums)
+            ApplyAnswer::Of(row.sums)
         }
     }
 }

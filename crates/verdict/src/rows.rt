@@ -90,11 +90,12 @@ pub fn row_sums(cpi: usize, listing: &[u32], from: usize, batch: &[u64], cycle: 
     let a = side_sum(cpi, listing, from, Side::A, batch, cycle);
     let b = side_sum(cpi, listing, a.end, Side::B, batch, cycle);
     let c = side_sum(cpi, listing, b.end, Side::C, batch, cycle);
-    let x = a.sum;
-    let y = b.sum;
-    let z = c.sum;
     RowSums {
-        sums: Sums { a: x, b: y, c: z },
+        sums: Sums {
+            a: a.sum,
+            b: b.sum,
+            c: c.sum,
+        },
         end: c.end,
     }
 }
@@ -105,10 +106,7 @@ pub fn test_row(cpi: usize, listing: &[u32], from: usize, batch: &[u64], cycle: 
     ensures { RowTested (cycle_of cpi batch.now cycle) listing.now from result }
 {
     let row = row_sums(cpi, listing, from, batch, cycle);
-    let s = row.sums;
-    let a = s.a;
-    let b = s.b;
-    let c = s.c;
+    let Sums { a, b, c } = row.sums;
     Tested {
         holds: a.mul(b).same(c),
         end: row.end,
