@@ -15,9 +15,6 @@ returns-then-cpi-cycle c =
     ap Refused c.refused.ensures ∙ refused _ _ _ (le-ltb _ _ c.if-cpi-cycle.true)
     ∙ ap (applied_at a.cpi a.listing.now a.batch.now a.cycle) (sym c.in-At.is)
 
-pub overflow_add-start : goal.overflow_add-start
-overflow_add-start c = let r = subst (RowFound _) c.in-At.is c.requires.1.1 in omega (arith, r.0)
-
 pub row_sums-row-requires : goal.row_sums-row-requires
 row_sums-row-requires c =
     let p = c.requires in

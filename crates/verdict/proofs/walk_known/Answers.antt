@@ -1,13 +1,9 @@
 -- `verdict::walk_known` meets its contract: each table is the listing of its name, which is in order, so the loops may start at once.
 -- Assumes nothing.
-use mathlib.Core.List.{List}
-use mathlib.Core.Path.{sym, ap, ◌∙◌}
-use Prim.Native.Nat.{ℕ}
+use mathlib.Core.Path.{ap, ◌∙◌}
 use Rattle.circuit.specs.Valid.{validated}
-use Rattle.strict.specs.Known.{listing_of}
 use Rattle.strict.specs.declared.Known.TheVariants.{House, Strict}
 use Rattle.strict.proofs.Laws.Known.{in_order}
-use Rattle.verdict.specs.Check.{judged}
 use Rattle.verdict.proofs.walk_known.Goals as goal
 
 pub walk-requires : goal.walk-requires
@@ -19,15 +15,3 @@ pub walk-requires-in-Strict : goal.walk-requires-in-Strict
 walk-requires-in-Strict c =
     let pre = c.requires in
     (pre.0, (pre.1, ap validated c.build_strict-listing.ensures ∙ in_order Strict))
-
-pub returns-in-House : goal.returns-in-House
-returns-in-House c =
-    let a = c.args in
-    c.walk.ensures
-    ∙ ap (λ (ws : List ℕ). judged a.cpi ws a.batch.now) (c.build_circuit-listing.ensures ∙ ap listing_of (sym c.in-House.is))
-
-pub returns-in-Strict : goal.returns-in-Strict
-returns-in-Strict c =
-    let a = c.args in
-    c.walk-in-Strict.ensures
-    ∙ ap (λ (ws : List ℕ). judged a.cpi ws a.batch.now) (c.build_strict-listing.ensures ∙ ap listing_of (sym c.in-Strict.is))
