@@ -1,5 +1,5 @@
 -- The number of whatever `batched` gives fits in 64 bits: by the questions that come first, its parts are small. So does that of a word by
--- itself, whose parts are a few of its bits, and a refusal's, of whose place 32 bits are kept.
+-- itself, whose parts are a few of its bits.
 -- Assumes nothing.
 use mathlib.Core.Path.{◌≡◌, refl}
 use mathlib.Core.Bool.{Bool, true, false, cond}
@@ -10,7 +10,7 @@ use borrow.Author.Tests.{ltb-true}
 use lib.Dec.{eqb, ltb}
 use Rattle.layout.specs.Batch.{allowed, column_at, mapped}
 use Rattle.layout.specs.Columns.{W-COLS, ONE-COL}
-use Rattle.layout.specs.Questions.{no, Answer}
+use Rattle.layout.specs.Questions.{no}
 use Rattle.layout.specs.Laws.Sizes.{allowed-range}
 use Rattle.circuit.specs.declared.Relation.{Relation}
 use Rattle.circuit.specs.declared.Relation.TheVariants.{Bin, Fld}
@@ -25,18 +25,11 @@ use Rattle.circuit.specs.Words.{bits, side_of, is_mark, flag_of, clean_of, relat
 use Rattle.circuit.specs.Found.{rows_a_cycle}
 use Rattle.circuit.specs.Laws.Words.{kind-small}
 use Rattle.circuit.specs.Batched.{batch_row, row_in, term_on, in_cycle, batched}
-use Rattle.compare.specs.Numbers.{kept_place, coefficient_number, mark_number, batch_number, word_number}
+use Rattle.compare.specs.Numbers.{coefficient_number, mark_number, batch_number, word_number}
 use Rattle.layout.specs.declared.questions.Question.TheVariants.{BatchSize, ColumnRange, CycleRange, MarkOrder, WordBits}
 use Rattle.std.specs.Prelude.{Err, Ok}
 
-pub place-small : (p : ℕ) → kept_place p < 2 ^ 32
-place-small p = by-test (ltb p (2 ^ 32 - 1)) refl
-  where
-    by-test : (b : Bool) → ltb p (2 ^ 32 - 1) ≡ b → cond b p (2 ^ 32 - 1) < 2 ^ 32
-    by-test true e = omega (arith, ltb-true p (2 ^ 32 - 1) e)
-    by-test false e = omega arith
-
-abbrev pub Fits : Answer BatchWord → Type 0
+abbrev pub Fits : BatchWord → Type 0
 Fits w = batch_number w < 2 ^ 64
 
 coefficient-small : (w : ℕ) → coefficient_number (coefficient_of w) ≤ 255
@@ -68,7 +61,7 @@ module _ (cpi d : ℕ) (ok : allowed cpi ≡ true) where
     where
       by_tests :
           (rel : Relation) (s t : Bool) → ltb r (rows_a_cycle rel) ≡ s → ltb d cpi ≡ t
-          → Fits (cond s (cond t (Ok (Row rel (batch_row rel d r))) (Err (no CycleRange 0))) (Err (no MarkOrder 0)))
+          → Fits (cond s (cond t (Row rel (batch_row rel d r)) (Err (no CycleRange 0))) (Err (no MarkOrder 0)))
       by_tests Bin true true e f = omega (arith, ltb-true r 512 e, ltb-true d cpi f, allowed-range cpi ok)
       by_tests Fld true true e f = omega (arith, ltb-true r 32 e, ltb-true d cpi f, allowed-range cpi ok)
       by_tests rel true false e f = omega arith
@@ -95,9 +88,9 @@ module _ (cpi d : ℕ) (ok : allowed cpi ≡ true) where
       by_tests true false e f = omega arith
       by_tests false t e f = omega arith
 
-pub batched-fits : (cpi d w : ℕ) → w < 2 ^ 32 → Fits (batched cpi d w)
+pub batched_fits : (cpi d w : ℕ) → w < 2 ^ 32 → Fits (batched cpi d w)
 unfolding batched word_of
-batched-fits cpi d w h = by_tests (allowed cpi) (clean_of w) (is_mark w) refl
+batched_fits cpi d w h = by_tests (allowed cpi) (clean_of w) (is_mark w) refl
   where
     by_tests :
         (a q m : Bool) → allowed cpi ≡ a

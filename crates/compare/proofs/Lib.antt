@@ -1,3 +1,3 @@
 pub mod Fits
-pub mod Entries
+pub mod Names
 pub mod Ored

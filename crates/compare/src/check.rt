@@ -1,32 +1,24 @@
 // The check, by itself and behind the filler, a row's sums and the bit test.
-ghost use Rattle.std.specs.Prelude.{◌≡◌, ◌++◌, ◌+◌, ◌<◌, ◌≤◌, ◌^◌, length, drop};
+ghost use Rattle.std.specs.Prelude.{◌≡◌, ◌+◌, ◌<◌, ◌≤◌, ◌^◌};
 ghost use Rattle.verdict.specs.Check.{checked, known_checked};
 ghost use Rattle.verdict.specs.Apply.{applied};
 ghost use Rattle.verdict.specs.Bits.{bit_tested};
 ghost use Rattle.judge.specs.FillCheck.{fill_checked};
-ghost use Rattle.compare.specs.Numbers.{kept_place, refused_at, by_relation};
-ghost use Rattle.compare.specs.Replies.{counts_number, verdict_number, check_number, reply, check_reply, fill_check_reply, chosen_listing, chosen_relation, sum_words, sums_reply, apply_reply, found_number, bit_number};
+ghost use Rattle.compare.specs.Numbers.{refused_at, by_relation};
+ghost use Rattle.compare.specs.Replies.{counts_number, verdict_number, check_number, reply, check_reply, fill_check_reply, chosen_listing, chosen_relation, sum_words, apply_reply, bit_number};
 
 use circuit::Relation;
 use layout::Refusal;
 use strict::Known;
-use verdict::bits::NotBit;
 use verdict::{Counts, Sums, Verdict};
 
-fn kept_place(place: usize) -> u64
-    ensures { result ≡ kept_place place }
-{
-    if place < 0xffffffff {
-        place as u64
-    } else {
-        0xffffffff
-    }
-}
+// Where nothing is asked, since too few words are lent, and where there is no word.
+pub const NONE: u64 = 0x8000000000000000;
 
 pub fn refused_at(r: Refusal) -> u64
     ensures { result ≡ refused_at r }
 {
-    0x8000000000000000 + r.question.number() as u64 * 0x100000000 + kept_place(r.place)
+    0x8000000000000000 + r.number as u64 * 0x100000000 + r.place.min(0xffffffff) as u64
 }
 
 // One number for bin, another for fld.
@@ -81,13 +73,15 @@ pub fn compare_check_row(
 ) -> u64
     ensures { reply result scratch.new ≡ check_reply (checked cpi listing.now batch.now scratch.old) }
 {
-    if way == 0 {
-        return check_number(judge::check_row(cpi, listing, batch, scratch));
-    }
-    check_number(verdict::check_row(cpi, listing, batch, scratch))
+    check_number(if way == 0 {
+        judge::check_row(cpi, listing, batch, scratch)
+    } else {
+        verdict::check_row(cpi, listing, batch, scratch)
+    })
 }
 
-// Here and below, which 0 is the house listing, any other number the strict one.
+// Here and below, which 0 is the house listing, any other number the strict one. A function, since no crate but `strict` may write a `From`
+// for `Known`.
 pub fn chosen_listing(n: u32) -> Known
     ensures { result ≡ chosen_listing n }
 {
@@ -97,10 +91,12 @@ pub fn chosen_listing(n: u32) -> Known
 pub fn compare_check_known(which: u32, way: u32, cpi: usize, batch: &[u64]) -> u64
     ensures { result ≡ check_number (known_checked (chosen_listing which) cpi batch.now) }
 {
-    if way == 0 {
-        return check_number(judge::check_known(chosen_listing(which), cpi, batch));
-    }
-    check_number(verdict::check_known(chosen_listing(which), cpi, batch))
+    let known = chosen_listing(which);
+    check_number(if way == 0 {
+        judge::check_known(known, cpi, batch)
+    } else {
+        verdict::check_known(known, cpi, batch)
+    })
 }
 
 // A batch is filled and then checked, in one call.
@@ -110,38 +106,24 @@ pub fn compare_fill_and_check(which: u32, cpi: usize, batch: &mut [u64]) -> u64
     check_number(judge::fill_and_check(chosen_listing(which), cpi, batch))
 }
 
+// 0 is bin, any other number fld: a function for the same reason.
 pub fn chosen_relation(n: u32) -> Relation
     ensures { result ≡ chosen_relation n }
 {
     if n == 0 { Relation::Bin } else { Relation::Fld }
 }
 
-fn write_sums(s: Sums, out: &mut [u64])
-    requires { 6 ≤ length out.old }
-    ensures { out.new ≡ sum_words s ++ drop 6 out.old }
+fn sum_words(s: Sums) -> [u64; 6]
+    ensures { result ≡ sum_words s }
 {
-    let a = s.a;
-    let b = s.b;
-    let c = s.c;
-    out[0] = a.low();
-    out[1] = a.high();
-    out[2] = b.low();
-    out[3] = b.high();
-    out[4] = c.low();
-    out[5] = c.high();
-}
-
-fn put_sums(answer: Result<Sums, Refusal>, out: &mut [u64]) -> u64
-    requires { 6 ≤ length out.old }
-    ensures { reply result out.new ≡ sums_reply answer out.old }
-{
-    match answer {
-        Ok(s) => {
-            write_sums(s, out);
-            0
-        }
-        Err(r) => refused_at(r),
-    }
+    [
+        s.a.low(),
+        s.a.high(),
+        s.b.low(),
+        s.b.high(),
+        s.c.low(),
+        s.c.high(),
+    ]
 }
 
 pub fn compare_apply(
@@ -156,27 +138,15 @@ pub fn compare_apply(
     ensures { reply result out.new
         ≡ apply_reply (applied cpi listing.now batch.now (chosen_relation relation) row cycle) out.old }
 {
-    if out.len() < 6 {
-        return 0x8000000000000000;
-    }
-    put_sums(
-        verdict::apply(cpi, listing, batch, chosen_relation(relation), row, cycle),
-        out,
-    )
-}
-
-fn found_number(found: Option<NotBit>) -> u64
-    requires { found_number found < 2 ^ 64 }
-    ensures { result ≡ found_number found }
-{
-    match found {
-        None => 0,
-        Some(b) => {
-            0x4000000000000000
-                + b.cycle as u64 * 0x1000000000000
-                + b.column as u64 * 0x100000000
-                + b.at as u64
+    let Some(place) = out.first_chunk_mut::<6>() else {
+        return NONE;
+    };
+    match verdict::apply(cpi, listing, batch, chosen_relation(relation), row, cycle) {
+        Ok(s) => {
+            *place = sum_words(s);
+            0
         }
+        Err(r) => refused_at(r),
     }
 }
 
@@ -185,7 +155,13 @@ fn bit_number(answer: Result<Option<NotBit>, Refusal>) -> u64
     ensures { result ≡ bit_number answer }
 {
     match answer {
-        Ok(found) => found_number(found),
+        Ok(None) => 0,
+        BitAnswer::NotBit { at, column, cycle } => {
+            0x4000000000000000
+                + cycle as u64 * 0x1000000000000
+                + column as u64 * 0x100000000
+                + at as u64
+        }
         Err(r) => refused_at(r),
     }
 }

@@ -21,7 +21,7 @@ ghost use Rattle.base.specs.Bits.{digit};
 ghost use Rattle.layout.specs.Batch.{exponent_of, scratch_fits, geometry_of, mapped, unmapped};
 ghost use Rattle.strict.specs.Known.{listing_of};
 ghost use Rattle.circuit.specs.Batched.{batched, unmapped_row};
-ghost use Rattle.compare.specs.Numbers.{one_of, word_of, geometry_part, geometry_number, column_number, cycle_column_number, cycle_row_number, coefficient_number, mark_number, batch_word_number, batch_number};
+ghost use Rattle.compare.specs.Numbers.{one_of, word_of, geometry_part, geometry_number, column_number, cycle_column_number, cycle_row_number, coefficient_number, mark_number, batch_number};
 ghost use Rattle.compare.specs.Replies.{chosen_listing, chosen_relation};
 
 use crate::check::{by_relation, chosen_listing, chosen_relation, refused_at};
@@ -89,8 +89,7 @@ fn geometry_part(g: InstanceGeometry, part: u32) -> u64
 pub fn compare_geometry(cpi: usize, part: u32) -> u64
     ensures { result ≡ geometry_number part (geometry_of cpi) }
 {
-    let answer = layout::geometry(cpi);
-    match answer {
+    match layout::geometry(cpi) {
         Ok(g) => geometry_part(g, part),
         Err(r) => refused_at(r),
     }
@@ -106,7 +105,7 @@ pub fn compare_exponent(cpi: usize) -> u32
 pub fn compare_scratch_fits(words: usize) -> u32
     ensures { result ≡ digit (scratch_fits words) }
 {
-    if layout::scratch_fits(words) { 1 } else { 0 }
+    u32::from(layout::scratch_fits(words))
 }
 
 fn column_number(answer: Result<usize, Refusal>) -> u64
@@ -133,9 +132,8 @@ pub fn compare_map_z_col(cpi: usize, column: usize, cycle: usize) -> u64
 pub fn compare_way_back(cpi: usize, column: usize, part: u32) -> u64
     ensures { result ≡ cycle_column_number part (unmapped cpi column) }
 {
-    let answer = layout::unmap_col(cpi, column);
-    match answer {
-        Ok(found) => one_of(part, found.column as u64, found.cycle as u64),
+    match layout::unmap_col(cpi, column) {
+        CycleColumnAnswer::At { column: c, cycle } => one_of(part, c as u64, cycle as u64),
         Err(r) => refused_at(r),
     }
 }
@@ -143,9 +141,8 @@ pub fn compare_way_back(cpi: usize, column: usize, part: u32) -> u64
 pub fn compare_row_way_back(cpi: usize, relation: u32, batch_row: usize, part: u32) -> u64
     ensures { result ≡ cycle_row_number part (unmapped_row cpi (chosen_relation relation) batch_row) }
 {
-    let answer = circuit::batch::unmap_row(cpi, chosen_relation(relation), batch_row);
-    match answer {
-        Ok(found) => one_of(part, found.row as u64, found.cycle as u64),
+    match circuit::batch::unmap_row(cpi, chosen_relation(relation), batch_row) {
+        CycleRowAnswer::At { cycle, row } => one_of(part, row as u64, cycle as u64),
         Err(r) => refused_at(r),
     }
 }
@@ -154,21 +151,15 @@ pub fn compare_row_way_back(cpi: usize, relation: u32, batch_row: usize, part: u
 fn word_or_zero(words: &[u32], i: usize) -> u32
     ensures { result ≡ get_or words.now i 0 }
 {
-    if i < words.len() { words[i] } else { 0 }
+    words.get(i).copied().unwrap_or(0)
 }
 
 pub fn compare_listing_word(which: u32, i: usize) -> u32
     ensures { result ≡ get_or (listing_of (chosen_listing which)) i 0 }
 {
     match chosen_listing(which) {
-        Known::House => {
-            let words = circuit::build_circuit();
-            word_or_zero(&words, i)
-        }
-        Known::Strict => {
-            let words = strict::build_strict();
-            word_or_zero(&words, i)
-        }
+        Known::House => word_or_zero(&circuit::build_circuit(), i),
+        Known::Strict => word_or_zero(&strict::build_strict(), i),
     }
 }
 
@@ -188,9 +179,9 @@ fn mark_number(relation: Relation) -> u64
     by_relation(relation, 3, 4)
 }
 
-fn batch_word_number(w: BatchWord) -> u64
-    requires { batch_word_number w < 2 ^ 64 }
-    ensures { result ≡ batch_word_number w }
+fn batch_number(w: BatchWord) -> u64
+    requires { batch_number w < 2 ^ 64 }
+    ensures { result ≡ batch_number w }
 {
     match w {
         BatchWord::Row { relation, row } => row as u64 + mark_number(relation) * 0x10000000000,
@@ -203,19 +194,11 @@ fn batch_word_number(w: BatchWord) -> u64
                 + coefficient_number(coefficient) * 0x100000000
                 + circuit::words::side_kind(side) as u64 * 0x10000000000
         }
+        BatchWord::Refused(r) => refused_at(r),
     }
 }
 
-fn batch_number(answer: Result<BatchWord, Refusal>) -> u64
-    requires { batch_number answer < 2 ^ 64 }
-    ensures { result ≡ batch_number answer }
-{
-    match answer {
-        Ok(w) => batch_word_number(w),
-        Err(r) => refused_at(r),
-    }
-}
-
+#[tactic(auto, using(crate::proofs::Fits::batched_fits))]
 pub fn compare_batched(cpi: usize, cycle: usize, word: u32) -> u64
     ensures { result ≡ batch_number (batched cpi cycle word) }
 {

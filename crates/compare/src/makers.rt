@@ -5,6 +5,7 @@ ghost use Rattle.witness.specs.Reading.{reading};
 ghost use Rattle.compare.specs.Replies.{reply, called_reply};
 ghost use Rattle.compare.specs.Records.{record_of, kind_of, rom_row_of, row_reply, reading_number};
 
+use crate::check::NONE;
 use crate::fills::asked_number;
 use witness::branch::BranchReading;
 use witness::records::{CycleRecord, RomRow, VirtualKind};
@@ -13,13 +14,14 @@ fn record_of(words: &[u64]) -> CycleRecord
     requires { 30 ≤ length words.now }
     ensures { result ≡ record_of words.now }
 {
+    let flag = |i: usize| words[i] % 2 == 1;
     CycleRecord {
         micro_pc: words[0] as usize,
         rs1_val: words[1],
         rs2_val: words[2],
         rd_val: words[3],
         rd_old: words[4],
-        we: words[5] % 2 == 1,
+        we: flag(5),
         rd: words[6] as usize,
         ram_addr: words[7] as usize,
         ram_word: words[8],
@@ -28,22 +30,22 @@ fn record_of(words: &[u64]) -> CycleRecord
         byte_offset: (words[11] % 256) as u8,
         store_width: (words[12] % 256) as u8,
         store_src: words[13],
-        branch_taken: words[14] % 2 == 1,
+        branch_taken: flag(14),
         next_pc: words[15] as usize,
         alu_a: words[16],
         alu_b: words[17],
         alu_out: words[18],
         shift_out: words[19],
-        is_arith: words[20] % 2 == 1,
-        is_logic: words[21] % 2 == 1,
-        is_sub_op: words[22] % 2 == 1,
-        is_shift: words[23] % 2 == 1,
-        is_load: words[24] % 2 == 1,
-        is_store: words[25] % 2 == 1,
-        ld_byte: words[26] % 2 == 1,
-        ld_half: words[27] % 2 == 1,
-        ld_word: words[28] % 2 == 1,
-        halted_latch: words[29] % 2 == 1,
+        is_arith: flag(20),
+        is_logic: flag(21),
+        is_sub_op: flag(22),
+        is_shift: flag(23),
+        is_load: flag(24),
+        is_store: flag(25),
+        ld_byte: flag(26),
+        ld_half: flag(27),
+        ld_word: flag(28),
+        halted_latch: flag(29),
     }
 }
 
@@ -83,10 +85,10 @@ pub fn compare_witness_row(cycle: &[u64], rom: &[u64], public: &[u64], row: &mut
     ensures { reply result row.new ≡ row_reply cycle.now rom.now public.now row.old }
 {
     if cycle.len() < 30 {
-        return 0x8000000000000000;
+        return NONE;
     }
     if rom.len() < 8 {
-        return 0x8000000000000000;
+        return NONE;
     }
     asked_number(witness::row::witness_row(record_of(cycle), rom_row_of(rom), public, row))
 }

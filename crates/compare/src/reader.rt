@@ -1,14 +1,13 @@
 // The listing reader: a listing is opened, and asked for two rows one after the other.
-ghost use Rattle.std.specs.Prelude.{◌≡◌, ◌++◌, ◌≤◌, length, drop};
+ghost use Rattle.std.specs.Prelude.{◌≡◌};
 ghost use Rattle.compare.specs.Replies.{reply, chosen_relation};
 ghost use Rattle.compare.specs.RowReplies.{two_rows, start_number, end_number, row_words, reader_reply};
 
-use crate::check::{chosen_relation, refused_at};
+use crate::check::{NONE, chosen_relation, refused_at};
 use crate::fills::asked_number;
 use crate::search::word_at;
 use circuit::Relation;
 use circuit::reader::ListingReader;
-use circuit::search::Place;
 use layout::Refusal;
 
 // What the opening answered, and of each row the place, a word of the part, and the position afterwards.
@@ -53,7 +52,7 @@ pub fn start_number(place: Result<Place, Refusal>) -> u64
     ensures { result ≡ start_number place }
 {
     match place {
-        Ok(found) => found.start as u64,
+        Found::At { start, .. } => start as u64,
         Err(r) => refused_at(r),
     }
 }
@@ -62,25 +61,24 @@ pub fn end_number(place: Result<Place, Refusal>) -> u64
     ensures { result ≡ end_number place }
 {
     match place {
-        Ok(found) => found.end as u64,
+        Found::At { end, .. } => end as u64,
         Err(_) => 0,
     }
 }
 
-fn write_rows(read: TwoRows, out: &mut [u64])
-    requires { 8 ≤ length out.old }
-    ensures { out.new ≡ row_words read ++ drop 8 out.old }
+fn row_words(read: TwoRows) -> [u64; 8]
+    ensures { result ≡ row_words read }
 {
-    let first = read.first;
-    let second = read.second;
-    out[0] = start_number(first);
-    out[1] = end_number(first);
-    out[2] = read.first_word;
-    out[3] = read.between as u64;
-    out[4] = start_number(second);
-    out[5] = end_number(second);
-    out[6] = read.second_word;
-    out[7] = read.last as u64;
+    [
+        start_number(read.first),
+        end_number(read.first),
+        read.first_word,
+        read.between as u64,
+        start_number(read.second),
+        end_number(read.second),
+        read.second_word,
+        read.last as u64,
+    ]
 }
 
 pub fn compare_reader(
@@ -95,13 +93,12 @@ pub fn compare_reader(
     ensures { reply result out.new ≡ reader_reply
         (two_rows listing.now (chosen_relation relation) row (chosen_relation next_relation) next_row i) out.old }
 {
-    if out.len() < 8 {
-        return 0x8000000000000000;
-    }
+    let Some(place) = out.first_chunk_mut::<8>() else {
+        return NONE;
+    };
     let first = chosen_relation(relation);
     let second = chosen_relation(next_relation);
     let read = two_rows(listing, first, row, second, next_row, i);
-    let asked = read.asked;
-    write_rows(read, out);
-    asked_number(asked)
+    *place = row_words(read);
+    asked_number(read.asked)
 }

@@ -1,5 +1,7 @@
 // What the benchmark holds the check against, compiled as the check is: one plain read of words or bytes, the clearing of
 // scratch, and the comparison of a listing with the table.
+#![tactic(auto, using(crate::proofs::Ored::read_one, crate::proofs::Ored::read_none))]
+
 ghost use Rattle.std.specs.Prelude.{◌↔◌, ◌≡◌, ◌<◌, length, replicate};
 ghost use Rattle.strict.specs.Known.{listing_of};
 ghost use Rattle.compare.specs.Reads.{ored};
@@ -11,32 +13,23 @@ use crate::check::chosen_listing;
 pub fn compare_read(words: &[u64]) -> u64
     ensures { result ≡ ored words.now }
 {
-    let mut all: u64 = 0;
-    let mut i: usize = 0;
-    while i < words.len() {
-        all = all | words[i];
-        i = i + 1;
+    let mut all = 0;
+    for word in words {
+        all |= *word;
     }
     all
 }
 
-fn wide(x: u8) -> u64
-    ensures { result ≡ x }
-{
-    x as u64
-}
-
-// The bytes are joined as bytes, so that as many are read at a time as of words.
+// The bytes are joined as bytes, so that as many are read at a time as of words. The loop stands twice: what is promised is said of numbers,
+// which the values of a type parameter are not.
 pub fn compare_read_bytes(bytes: &[u8]) -> u64
     ensures { result ≡ ored bytes.now }
 {
-    let mut all: u8 = 0;
-    let mut i: usize = 0;
-    while i < bytes.len() {
-        all = all | bytes[i];
-        i = i + 1;
+    let mut all = 0;
+    for byte in bytes {
+        all |= *byte;
     }
-    wide(all)
+    u64::from(all)
 }
 
 pub fn compare_clear(scratch: &mut [u64])
@@ -49,9 +42,5 @@ pub fn compare_clear(scratch: &mut [u64])
 pub fn compare_is_known(which: u32, listing: &[u32]) -> u64
     ensures { (result < 2) × ((result ≡ 1) ↔ (listing.now ≡ listing_of (chosen_listing which))) }
 {
-    if strict::is_known(chosen_listing(which), listing) {
-        1
-    } else {
-        0
-    }
+    u64::from(strict::is_known(chosen_listing(which), listing))
 }

@@ -5,22 +5,17 @@ ghost use Rattle.compare.specs.Numbers.{entry_of};
 ghost use Rattle.compare.specs.Replies.{chosen_relation};
 ghost use Rattle.compare.specs.RowReplies.{chosen_place, found_number, sought};
 
-use crate::check::chosen_relation;
+use crate::check::{NONE, chosen_relation};
 use crate::one_of;
 use crate::reader::{end_number, start_number};
 use circuit::Relation;
-use circuit::search::Place;
 use layout::{Question, Refusal};
 
 // Word i, 2^63 past the end.
 pub fn word_at(words: &[u32], i: usize) -> u64
     ensures { result ≡ entry_of i words.now }
 {
-    if i < words.len() {
-        words[i] as u64
-    } else {
-        0x8000000000000000
-    }
+    words.get(i).map_or(NONE, |word| u64::from(*word))
 }
 
 fn found_number(place: Result<Place, Refusal>, part: u32) -> u64
@@ -34,9 +29,10 @@ fn seek(opened: u32, listing: &[u32], relation: Relation, row: usize) -> Result<
     ensures { result ≡ sought opened listing.now relation row }
 {
     if opened == 0 {
-        return circuit::search::find_row(listing, relation, row);
+        circuit::search::find_row(listing, relation, row)
+    } else {
+        circuit::reader::read_row(listing, relation, row)
     }
-    circuit::reader::read_row(listing, relation, row)
 }
 
 pub fn compare_find_row(opened: u32, listing: &[u32], relation: u32, row: usize, part: u32) -> u64
@@ -58,7 +54,7 @@ fn chosen_place(refused: u32, start: usize, end: usize) -> Result<Place, Refusal
     ensures { result ≡ chosen_place refused start end }
 {
     if refused == 0 {
-        Ok(Place { start, end })
+        Found::At { start, end }
     } else {
         Err(Question::RowSought.refused())
     }

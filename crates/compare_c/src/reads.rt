@@ -1,4 +1,5 @@
 // What the benchmark holds the check against, compiled as the check is: one plain read of words or bytes, the clearing of
+// scratch, and the comparison of a listing with the table.
 ghost use Rattle.std.specs.Prelude.{◌↔◌, ◌≡◌, ◌<◌, length, replicate};
 ghost use Rattle.strict.specs.Known.{listing_of};
 ghost use Rattle.compare.specs.Reads.{ored};

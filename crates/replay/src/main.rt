@@ -7,141 +7,124 @@ mod numbers;
 mod readings;
 mod words;
 
-ghost use Rattle.std.specs.Prelude.{◌+◌, ◌<◌, ◌≤◌};
-
-use crate::line::Record;
-use crate::makers::Made;
-use crate::numbers::Numbers;
-use crate::readings::Reading;
-use crate::words::Put;
+use crate::line::Line;
 use printer::input;
-use std::io;
+use std::{fmt, io};
 
-// What a line comes to: nothing to answer, the right answer, or another one.
+// A line that is as it should be has nothing to answer, or the right answer.
 #[derive(Clone, Copy)]
 enum Outcome {
     Quiet,
     Right,
-    Wrong,
 }
 
-fn of(right: bool) -> Outcome {
-    if right {
-        Outcome::Right
-    } else {
-        Outcome::Wrong
-    }
-}
-
-// What only puts words is wrong where there is no such place.
-fn set(done: bool) -> Outcome {
-    if done { Outcome::Quiet } else { Outcome::Wrong }
-}
-
-// A line says nothing, puts words, or has an answer of the product: on numbers, on words that are read, on words that are made.
+// What is wrong with a line: its letter, the place of its words, or its answer.
 #[derive(Clone, Copy)]
-enum Kind {
-    Note,
-    Cells(Put),
-    Lent(Put),
-    Counts(Numbers),
-    Reads(Reading),
-    Makes(Made),
-    Unknown,
+pub enum Wrong {
+    Letter,
+    Place,
+    Answer,
 }
 
-// The letters stand in the vector file's first lines, with the numbers of each.
-fn kind_of(letter: u8) -> Kind {
-    match letter {
-        b'#' => Kind::Note,
-        b'0' => Kind::Cells(Put::Zeros),
-        b's' => Kind::Cells(Put::Element),
-        b'w' => Kind::Cells(Put::Bits),
-        b'Z' => Kind::Lent(Put::Zeros),
-        b'r' => Kind::Lent(Put::Seven),
-        b'W' => Kind::Lent(Put::Bits),
-        b'm' => Kind::Counts(Numbers::Product),
-        b'a' => Kind::Counts(Numbers::Sum),
-        b'l' => Kind::Counts(Numbers::Shift),
-        b'g' => Kind::Counts(Numbers::Geometry),
-        b'c' => Kind::Counts(Numbers::WitnessColumn),
-        b'z' => Kind::Counts(Numbers::AnyColumn),
-        b'b' => Kind::Counts(Numbers::WayBack),
-        b't' => Kind::Counts(Numbers::Branch),
-        b'k' => Kind::Reads(Reading::Check),
-        b'q' => Kind::Reads(Reading::Bits),
-        b'u' => Kind::Reads(Reading::Conditions),
-        b'p' => Kind::Reads(Reading::Sums),
-        b'o' => Kind::Reads(Reading::Rows),
-        b'v' => Kind::Makes(Made::Row),
-        b'j' => Kind::Makes(Made::Batch),
-        b'f' => Kind::Makes(Made::Filling),
-        _ => Kind::Unknown,
+fn answered(right: bool) -> Result<Outcome, Wrong> {
+    if right {
+        Ok(Outcome::Right)
+    } else {
+        Err(Wrong::Answer)
     }
 }
 
-fn replay(line: Record, cells: &mut [u64], lent: &mut [u64], made: &mut [u64]) -> Outcome {
+fn quiet(put: Result<(), Wrong>) -> Result<Outcome, Wrong> {
+    put.map(|()| Outcome::Quiet)
+}
+
+// A line says nothing, puts words, or has an answer of the product: on numbers, on words that are read, on words that are made. The letters
+// stand in the vector file's first lines, with the numbers of each. `cells` is the batch that is set up, `lent` is lent to the product, and in
+// `made` it makes a row or a batch. They are three slices and no struct, since a loan of one field while another is used gets no generated
+// proof.
+fn replay(
+    text: &[u8],
+    cells: &mut [u64],
+    lent: &mut [u64],
+    made: &mut [u64],
+) -> Result<Outcome, Wrong> {
+    let line = Line::read(text).ok_or(Wrong::Letter)?;
     let n = line.numbers;
-    match kind_of(line.letter) {
-        Kind::Note => Outcome::Quiet,
-        Kind::Cells(k) => set(words::is_put(k, n, cells)),
-        Kind::Lent(k) => set(words::is_put(k, n, lent)),
-        Kind::Counts(k) => of(numbers::is_right(k, n)),
-        Kind::Reads(k) => of(readings::is_right(k, n, cells, lent)),
-        Kind::Makes(k) => of(makers::is_right(k, n, lent, made, cells)),
-        Kind::Unknown => Outcome::Wrong,
+    match line.letter {
+        b'#' => Ok(Outcome::Quiet),
+        b'0' => {
+            cells.fill(0);
+            Ok(Outcome::Quiet)
+        }
+        b's' => quiet(words::put_one(cells, n)),
+        b'w' => quiet(words::put_bits(cells, n)),
+        b'Z' => {
+            lent.fill(0);
+            Ok(Outcome::Quiet)
+        }
+        b'r' => quiet(words::put_seven(lent, n)),
+        b'W' => quiet(words::put_bits(lent, n)),
+        b'm' => answered(numbers::product(n)),
+        b'a' => answered(numbers::sum(n)),
+        b'l' => answered(numbers::shift(n)),
+        b'g' => answered(numbers::geometry(n)),
+        b'c' => answered(numbers::witness_column(n)),
+        b'z' => answered(numbers::any_column(n)),
+        b'b' => answered(numbers::way_back(n)),
+        b't' => answered(numbers::branch(n)),
+        b'k' => answered(readings::check(n, cells)?),
+        b'q' => answered(readings::bits(n, cells)?),
+        b'u' => answered(readings::conditions(n, cells)?),
+        b'p' => answered(readings::sums(n, cells, lent)?),
+        b'o' => answered(readings::rows(n, lent)),
+        b'v' => answered(makers::row(n, lent, made, cells)?),
+        b'j' => answered(makers::batch(n, lent, made, cells)?),
+        b'f' => answered(makers::filling(n, lent, cells)?),
+        _ => Err(Wrong::Letter),
     }
 }
 
-// How many answers were right, and how many others.
+// How many answers were right, and how many lines wrong.
 #[derive(Clone, Copy)]
 struct Tally {
-    right: u64,
-    wrong: u64,
+    right: usize,
+    wrong: usize,
 }
 
-fn counted(t: Tally, o: Outcome) -> Tally
-    requires { (t.right < 0x80000) × (t.wrong < 0x80000) }
-    ensures { (result.right ≤ t.right + 1) × (result.wrong ≤ t.wrong + 1) }
-{
-    match o {
-        Outcome::Quiet => t,
-        Outcome::Right => Tally {
-            right: t.right + 1,
-            wrong: t.wrong,
-        },
-        Outcome::Wrong => Tally {
-            right: t.right,
-            wrong: t.wrong + 1,
-        },
+impl fmt::Display for Tally {
+    fn fmt<W: fmt::Write>(&self, f: &mut fmt::Formatter<W>) -> fmt::Result {
+        let right = self.right;
+        let wrong = self.wrong;
+        write!(f, "{right} answers as they should be, {wrong} others")
     }
 }
 
-// A text of more than 0x80000 bytes is not replayed. A line has a byte at least, so the counts stay below that.
+const MOST_BYTES: usize = 0x80000;
+
+// A longer text is not replayed.
 fn replay_all(text: &[u8], cells: &mut [u64], lent: &mut [u64], made: &mut [u64]) -> Tally {
     let mut tally = Tally { right: 0, wrong: 0 };
-    if 0x80000 < text.len() {
+    if text.len() > MOST_BYTES {
         return tally;
     }
-    let mut at: usize = 0;
-    while at < text.len() {
-        let line = line::read_line(text, at);
-        tally = counted(tally, replay(line, cells, lent, made));
-        at = line.next;
+    for line in text.split_inclusive(|b| *b == b'\n') {
+        let line = line.strip_suffix(b"\n").unwrap_or(line);
+        match replay(line, cells, lent, made) {
+            Ok(Outcome::Quiet) => {}
+            Ok(Outcome::Right) => tally.right += 1,
+            Err(_) => tally.wrong += 1,
+        }
     }
     tally
 }
 
 // One byte more is read than is replayed, so that a longer text is seen and not cut.
 fn main(rt: HostRuntime) -> io::Result<()> {
-    let mut text = [0u8; 0x80001];
+    let mut text = [0; MOST_BYTES + 1];
     let n = input::read_full(&mut rt.stdin(), &mut text)?;
-    let mut cells = [0u64; 0x8000];
-    let mut lent = [0u64; 0x8000];
-    let mut made = [0u64; 0x8000];
+    let mut cells = [0; 0x8000];
+    let mut lent = [0; 0x8000];
+    let mut made = [0; 0x8000];
     let tally = replay_all(&text[..n], &mut cells, &mut lent, &mut made);
-    println!(rt;
-        "{} answers as they should be, {} others",
-        tally.right, tally.wrong
-    )
+    println!(rt; "{tally}")
 }

@@ -3,40 +3,53 @@ use compare::makers::compare_read_branch;
 use field::Gf128;
 use layout::Refusal;
 
-#[derive(Clone, Copy)]
-pub enum Numbers {
-    Product,
-    Sum,
-    Shift,
-    Geometry,
-    WitnessColumn,
-    AnyColumn,
-    WayBack,
-    Branch,
-}
+// A refusal stands as this and its number.
+pub const REFUSED: u64 = 0x8000000000000000;
 
-fn product(n: [u64; 8]) -> bool {
-    Gf128::of_words(n[0], n[1])
-        .mul(Gf128::of_words(n[2], n[3]))
-        .same(Gf128::of_words(n[4], n[5]))
-}
-
-fn sum(n: [u64; 8]) -> bool {
-    Gf128::of_words(n[0], n[1])
-        .add(Gf128::of_words(n[2], n[3]))
-        .same(Gf128::of_words(n[4], n[5]))
-}
-
-fn shift(n: [u64; 8]) -> bool {
-    let k = (n[2] % 0x100000000) as u32;
-    Gf128::of_words(n[0], n[1])
-        .shl(k)
-        .same(Gf128::of_words(n[3], n[4]))
-}
-
-// A refusal stands as 0x8000000000000000 and its number.
 fn refused_as(r: Refusal, n: u64) -> bool {
-    n == 0x8000000000000000 + r.question.number() as u64
+    n == REFUSED + u64::from(r.number)
+}
+
+// A narrow number stands in the low half of its own.
+pub fn low_half(n: u64) -> u32 {
+    (n & 0xffff_ffff) as u32
+}
+
+// Two elements, and what comes of them.
+fn elements([alo, ahi, blo, bhi, lo, hi, ..]: [u64; 8]) -> (Gf128, Gf128, Gf128) {
+    (
+        Gf128::of_words(alo, ahi),
+        Gf128::of_words(blo, bhi),
+        Gf128::of_words(lo, hi),
+    )
+}
+
+pub fn product(n: [u64; 8]) -> bool {
+    let (a, b, product) = elements(n);
+    a.mul(b).same(product)
+}
+
+pub fn sum(n: [u64; 8]) -> bool {
+    let (a, b, sum) = elements(n);
+    a.add(b).same(sum)
+}
+
+pub fn shift([alo, ahi, k, lo, hi, ..]: [u64; 8]) -> bool {
+    Gf128::of_words(alo, ahi)
+        .shl(low_half(k))
+        .same(Gf128::of_words(lo, hi))
+}
+
+pub fn geometry([cpi, w_cols, m, one_col, w128, ..]: [u64; 8]) -> bool {
+    match layout::geometry(cpi as usize) {
+        Ok(g) => {
+            (g.w_cols as u64 == w_cols)
+                && (g.m as u64 == m)
+                && (g.one_col as u64 == one_col)
+                && (g.w128 as u64 == w128)
+        }
+        Err(r) => refused_as(r, w_cols),
+    }
 }
 
 fn column_is(answer: Result<usize, Refusal>, n: u64) -> bool {
@@ -46,55 +59,31 @@ fn column_is(answer: Result<usize, Refusal>, n: u64) -> bool {
     }
 }
 
-fn witness_column(n: [u64; 8]) -> bool {
+pub fn witness_column([cpi, column, cycle, at, ..]: [u64; 8]) -> bool {
     column_is(
-        layout::map_col(n[0] as usize, n[1] as usize, n[2] as usize),
-        n[3],
+        layout::map_col(cpi as usize, column as usize, cycle as usize),
+        at,
     )
 }
 
-fn any_column(n: [u64; 8]) -> bool {
+pub fn any_column([cpi, column, cycle, at, ..]: [u64; 8]) -> bool {
     column_is(
-        layout::map_z_col(n[0] as usize, n[1] as usize, n[2] as usize),
-        n[3],
+        layout::map_z_col(cpi as usize, column as usize, cycle as usize),
+        at,
     )
 }
 
-fn way_back(n: [u64; 8]) -> bool {
-    match layout::unmap_col(n[0] as usize, n[1] as usize) {
-        Ok(found) => (found.column as u64 == n[2]) & (found.cycle as u64 == n[3]),
-        Err(r) => refused_as(r, n[2]),
+pub fn way_back([cpi, at, column, cycle, ..]: [u64; 8]) -> bool {
+    match layout::unmap_col(cpi as usize, at as usize) {
+        CycleColumnAnswer::At {
+            column: c,
+            cycle: d,
+        } => (c as u64 == column) && (d as u64 == cycle),
+        Err(r) => refused_as(r, column),
     }
 }
 
-fn geometry(n: [u64; 8]) -> bool {
-    match layout::geometry(n[0] as usize) {
-        Ok(g) => {
-            (g.w_cols as u64 == n[1])
-                & (g.m as u64 == n[2])
-                & (g.one_col as u64 == n[3])
-                & (g.w128 as u64 == n[4])
-        }
-        Err(r) => refused_as(r, n[1]),
-    }
-}
-
-// n: opcode, funct3, RS1, RS2, and 0 for no branch, 1 taken, 2 not taken, 3 reserved.
-fn branch(n: [u64; 8]) -> bool {
-    let opcode = (n[0] % 0x100000000) as u32;
-    let funct3 = (n[1] % 0x100000000) as u32;
-    compare_read_branch(opcode, funct3, n[2], n[3]) == n[4]
-}
-
-pub fn is_right(k: Numbers, n: [u64; 8]) -> bool {
-    match k {
-        Numbers::Product => product(n),
-        Numbers::Sum => sum(n),
-        Numbers::Shift => shift(n),
-        Numbers::Geometry => geometry(n),
-        Numbers::WitnessColumn => witness_column(n),
-        Numbers::AnyColumn => any_column(n),
-        Numbers::WayBack => way_back(n),
-        Numbers::Branch => branch(n),
-    }
+// The answer is 0 for no branch, 1 taken, 2 not taken, 3 reserved.
+pub fn branch([opcode, funct3, rs1, rs2, answer, ..]: [u64; 8]) -> bool {
+    compare_read_branch(low_half(opcode), low_half(funct3), rs1, rs2) == answer
 }

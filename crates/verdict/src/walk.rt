@@ -71,6 +71,7 @@ fn walk_parts(cpi: usize, bin: &[u32], fld: &[u32], batch: &[u64]) -> Verdict
     'relations: {
         for part in [bin, fld] {
             'cycles: for cycle in 0..cpi {
+                // A row ends where its terms do, so this index jumps.
                 let mut at: usize = 0;
                 'rows: while at < part.len() {
                     let mark = part[at];

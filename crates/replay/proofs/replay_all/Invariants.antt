@@ -1,13 +1,10 @@
--- `replay::replay_all` is safe and ends: each line moves the place on, and is counted at most once.
+-- Each line has a byte at least, and is counted at most once.
 -- Assumes nothing.
-use mathlib.Core.Path.{◌≡◌}
-use Prim.Native.Nat.{◌≤◌, ◌-◌}
-use lib.ListN.{length}
+use Rattle.std.proofs.Common.{◌+◌, ◌≤◌, length}
+use Rattle.std.specs.Slice.Iter.{split_inclusive_rest}
 use Rattle.replay.proofs.replay_all.Given as goal
 
-abbrev pub invariant-loop-at : goal.invariant-loop-at
-invariant-loop-at l = (l.at ≤ length l.text) × (length l.text ≤ 0x80000) × (l.tally.right ≤ l.at) × (l.tally.wrong ≤ l.at)
-    × (length l.cells ≡ length l.initial.cells) × (length l.lent ≡ length l.initial.lent) × (length l.made ≡ length l.initial.made)
-
-abbrev pub decreases-loop-at : goal.decreases-loop-at
-decreases-loop-at l = length l.text - l.at
+abbrev pub invariant-loop-line : goal.invariant-loop-line
+invariant-loop-line l =
+    (l.tally.right + length (split_inclusive_rest l.line-iterator) ≤ length l.text)
+    × (l.tally.wrong + length (split_inclusive_rest l.line-iterator) ≤ length l.text)

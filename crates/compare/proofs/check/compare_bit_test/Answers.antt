@@ -1,11 +1,10 @@
 -- What the bit test finds stands below one_col, so its column is below 2,048, its cycle below 256, and the number fits.
-use mathlib.Core.Path.{◌≡◌, refl, sym, ap, subst, ◌∙◌}
+use mathlib.Core.Path.{◌≡◌, refl, sym, subst}
 use mathlib.Core.Bool.{Bool, true, false, cond}
 use mathlib.Core.List.{List}
 use Prim.Native.Nat.{ℕ, ◌*◌, ◌/◌, ◌%◌, ◌^◌, ◌<◌}
 use native.Mathlib.Nat.{mod-lt, div-lt_iff_lt-mul}
 use native.Mathlib.Omega.{arith}
-use borrow.Author.Rules.{rules}
 use borrow.Author.Tests.{ltb-true}
 use lib.Dec.{eqb, ltb}
 use lib.ListN.{length}
@@ -44,6 +43,3 @@ fits cpi batch = by_tests (allowed cpi) (eqb (length batch) (batch_words cpi)) (
 
 pub bit_number-requires : goal.bit_number-requires
 bit_number-requires c = subst Fits (sym c.bit_test.ensures) (fits _ _)
-
-pub returns : goal.returns
-returns c = c.bit_number.ensures ∙ ap bit_number c.bit_test.ensures

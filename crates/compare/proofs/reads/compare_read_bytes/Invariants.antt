@@ -1,15 +1,8 @@
 -- What was read so far, joined with the rest, is the or of all, at every turn.
 -- Assumes nothing.
-use mathlib.Core.Path.{refl, ◌∙◌}
-use Prim.Native.Nat.{◌-◌}
-use native.Mathlib.Omega.{arith}
-use borrow.Author.Rules.{rules}
-use lib.ListN.{length}
-use Rattle.compare.proofs.Ored.{Joined, one_more, none_left}
+use Rattle.std.proofs.Common.{◌≡◌, drop}
+use Rattle.compare.specs.Reads.{ored_with, ored}
 use Rattle.compare.proofs.reads.compare_read_bytes.Given as goal
 
-abbrev pub invariant-loop-i : goal.invariant-loop-i
-invariant-loop-i l = Joined l.bytes l.all l.i
-
-abbrev pub decreases-loop-i : goal.decreases-loop-i
-decreases-loop-i l = length l.bytes - l.i
+abbrev pub invariant-loop-byte : goal.invariant-loop-byte
+invariant-loop-byte l = ored_with l.all (drop l.byte-index l.bytes) ≡ ored l.bytes

@@ -1,6 +1,0 @@
--- The word of what the calls give.
-use borrow.Author.Rules.{rules}
-use Rattle.compare.proofs.compare_add.Goals as goal
-
-pub returns : goal.returns
-returns c = cc

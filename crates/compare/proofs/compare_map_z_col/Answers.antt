@@ -1,6 +1,0 @@
--- The number of what the call gives.
-use borrow.Author.Rules.{rules}
-use Rattle.compare.proofs.compare_map_z_col.Goals as goal
-
-pub returns : goal.returns
-returns c = cc

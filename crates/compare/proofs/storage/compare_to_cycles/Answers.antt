@@ -1,8 +1,0 @@
--- The number of what the call gives; the slice that is written is what the call left.
-use mathlib.Core.Path.{refl, ap, ap₂, ◌∙◌}
-use borrow.Author.Rules.{rules}
-use Rattle.compare.specs.Replies.{reply, called_reply}
-use Rattle.compare.proofs.storage.compare_to_cycles.Goals as goal
-
-pub returns : goal.returns
-returns c = ap₂ reply c.asked_number.ensures refl ∙ ap called_reply c.to_cycles.ensures
