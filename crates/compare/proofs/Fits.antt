@@ -10,7 +10,7 @@ use borrow.Author.Tests.{ltb-true}
 use lib.Dec.{eqb, ltb}
 use Rattle.layout.specs.Batch.{allowed, column_at, mapped}
 use Rattle.layout.specs.Columns.{W-COLS, ONE-COL}
-use Rattle.layout.specs.Questions.{no}
+use Rattle.layout.specs.Questions.{no, Answer}
 use Rattle.layout.specs.Laws.Sizes.{allowed-range}
 use Rattle.circuit.specs.declared.Relation.{Relation}
 use Rattle.circuit.specs.declared.Relation.TheVariants.{Bin, Fld}
@@ -29,7 +29,7 @@ use Rattle.compare.specs.Numbers.{coefficient_number, mark_number, batch_number,
 use Rattle.layout.specs.declared.questions.Question.TheVariants.{BatchSize, ColumnRange, CycleRange, MarkOrder, WordBits}
 use Rattle.std.specs.Prelude.{Err, Ok}
 
-abbrev pub Fits : BatchWord → Type 0
+abbrev pub Fits : Answer BatchWord → Type 0
 Fits w = batch_number w < 2 ^ 64
 
 coefficient-small : (w : ℕ) → coefficient_number (coefficient_of w) ≤ 255
@@ -61,7 +61,7 @@ module _ (cpi d : ℕ) (ok : allowed cpi ≡ true) where
     where
       by_tests :
           (rel : Relation) (s t : Bool) → ltb r (rows_a_cycle rel) ≡ s → ltb d cpi ≡ t
-          → Fits (cond s (cond t (Row rel (batch_row rel d r)) (Err (no CycleRange 0))) (Err (no MarkOrder 0)))
+          → Fits (cond s (cond t (Ok (Row rel (batch_row rel d r))) (Err (no CycleRange 0))) (Err (no MarkOrder 0)))
       by_tests Bin true true e f = omega (arith, ltb-true r 512 e, ltb-true d cpi f, allowed-range cpi ok)
       by_tests Fld true true e f = omega (arith, ltb-true r 32 e, ltb-true d cpi f, allowed-range cpi ok)
       by_tests rel true false e f = omega arith

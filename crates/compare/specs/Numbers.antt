@@ -16,7 +16,7 @@ use Rattle.circuit.specs.declared.Word.TheVariants.{Mark, Term as OneTerm}
 use Rattle.circuit.specs.declared.batch.BatchWord.{BatchWord}
 use Rattle.circuit.specs.declared.batch.BatchWord.TheVariants.{Row, Term}
 use Rattle.circuit.specs.Words.{side_kind, relation_of, coefficient_of, clean_of, word_of as meaningOf}
-use Rattle.layout.specs.Questions.{Answer}
+use Rattle.layout.specs.Questions.{number_of as question_number, Answer}
 use Rattle.layout.specs.Batch.{cycle_column}
 use Rattle.circuit.specs.Batched.{cycle_row}
 use Rattle.layout.specs.declared.CycleColumn.{CycleColumn}
@@ -37,7 +37,7 @@ kept_place p = cond (ltb p (2 ^ 32 - 1)) p (2 ^ 32 - 1)
 
 -- 2^63, 2^32 times the number, and the place
 abbrev pub refused_at : Refusal → ℕ
-refused_at r = 2 ^ 63 + r.number * 2 ^ 32 + kept_place r.place
+refused_at r = 2 ^ 63 + question_number r.question * 2 ^ 32 + kept_place r.place
 
 abbrev pub geometry_part : ℕ → InstanceGeometry → ℕ
 geometry_part zero g = g.cpi
@@ -55,12 +55,12 @@ column_number (Ok c) = c
 column_number (Err r) = refused_at r
 
 abbrev pub cycle_column_number : ℕ → Answer CycleColumn → ℕ
-cycle_column_number part (cycle_column c d) = one_of part c d
+cycle_column_number part (Ok p) = one_of part p.column p.cycle
 cycle_column_number part (Err r) = refused_at r
 
 -- part 0 is the row of a cycle, any other the cycle
 abbrev pub cycle_row_number : ℕ → Answer CycleRow → ℕ
-cycle_row_number part (cycle_row d r) = one_of part r d
+cycle_row_number part (Ok p) = one_of part p.row p.cycle
 cycle_row_number part (Err r) = refused_at r
 
 -- 2^k is its exponent, zero is 255
@@ -77,15 +77,18 @@ abbrev pub mark_number : Relation → ℕ
 mark_number rel = by_relation rel 3 4
 
 -- a batch row or column, 2^32 times the coefficient, and 2^40 times the kind: 0, 1, 2 a term of A, B, C; 3 a bin and 4 a fld mark
-abbrev pub batch_number : BatchWord → ℕ
-batch_number (Row rel n) = n + mark_number rel * 2 ^ 40
-batch_number (Term side k c) = c + coefficient_number k * 2 ^ 32 + side_kind side * 2 ^ 40
+abbrev pub batch_word_number : BatchWord → ℕ
+batch_word_number (Row rel n) = n + mark_number rel * 2 ^ 40
+batch_word_number (Term side k c) = c + coefficient_number k * 2 ^ 32 + side_kind side * 2 ^ 40
+
+abbrev pub batch_number : Answer BatchWord → ℕ
+batch_number (Ok w) = batch_word_number w
 batch_number (Err r) = refused_at r
 
 -- a word by itself: its row or column as it stands there, and the rest as above
 abbrev pub word_number : Word → ℕ
-word_number (Mark rel n) = batch_number (Row rel n)
-word_number (OneTerm side k c) = batch_number (Term side k c)
+word_number (Mark rel n) = batch_word_number (Row rel n)
+word_number (OneTerm side k c) = batch_word_number (Term side k c)
 
 -- of a word: part 0 is what it stands for, 1 its relation, 2 its coefficient, any other 1 where its must-be-zero bits are zero, else 0
 abbrev pub word_part : ℕ → ℕ → ℕ

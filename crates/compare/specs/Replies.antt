@@ -1,6 +1,6 @@
 -- Answers of the check, the filler, the conditions and packing as numbers, with what a lent slice holds afterwards where one is lent.
 -- Assumes nothing.
-use Rattle.std.specs.Prelude.{cond, List, [], ◌∷◌, ◌++◌, ℕ, ◌+◌, ◌*◌, ◌%◌, ◌^◌, eqb, ltb, length, drop, Bool, Err, None, Ok, Option, false, true}
+use Rattle.std.specs.Prelude.{cond, List, [], ◌∷◌, ◌++◌, ℕ, ◌+◌, ◌*◌, ◌%◌, ◌^◌, eqb, ltb, length, drop, Bool, Err, None, Ok, Option, false, true, Some}
 use Rattle.field.specs.Gf.{low, high}
 use Rattle.layout.specs.Questions.{Called, Answer, Asked}
 use Rattle.circuit.specs.declared.Relation.{Relation}
@@ -15,8 +15,7 @@ use Rattle.verdict.specs.Check.{Checked}
 use Rattle.packed.specs.Packed.{NamedCalled}
 use Rattle.judge.specs.FillCheck.{FillChecked}
 use Rattle.compare.specs.Numbers.{refused_at, by_relation}
-use Rattle.verdict.specs.Bits.{not_bit}
-use Rattle.filler.specs.Met.{unmet}
+use Rattle.verdict.specs.declared.bits.NotBit.{NotBit}
 
 -- the counts: 2^40 times that of fld, and 2^20 times that of bin. Of each 20 bits are kept, and as many of a batch row, which is more than
 -- a batch has
@@ -68,9 +67,12 @@ abbrev pub apply_reply : Answer Sums → List ℕ → Reply
 apply_reply a out = cond (ltb (length out) 6) (reply (2 ^ 63) out) (sums_reply a out)
 
 -- all bits: 0; else 2^62, 2^48 times the cycle, 2^32 times the column, and the batch column
-abbrev pub bit_number : Answer (Option not_bit) → ℕ
-bit_number (Ok None) = 0
-bit_number (not_bit at c d) = 2 ^ 62 + d * 2 ^ 48 + c * 2 ^ 32 + at
+abbrev pub found_number : Option NotBit → ℕ
+found_number None = 0
+found_number (Some b) = 2 ^ 62 + b.cycle * 2 ^ 48 + b.column * 2 ^ 32 + b.at
+
+abbrev pub bit_number : Answer (Option NotBit) → ℕ
+bit_number (Ok found) = found_number found
 bit_number (Err r) = refused_at r
 
 -- ---- the filler, the conditions, and packed words
@@ -94,5 +96,5 @@ called_reply c = reply (asked_number c.answer) c.batch
 -- all met: 0
 abbrev pub step_number : Answer (Option ℕ) → ℕ
 step_number (Ok None) = 0
-step_number (unmet k) = k
+step_number (Ok (Some k)) = k
 step_number (Err r) = refused_at r

@@ -28,12 +28,12 @@ two_rows ws rel n rel' n' i = record {
 
 -- where a row starts
 abbrev pub start_number : Answer Place → ℕ
-start_number (place_at start end) = start
+start_number (Ok place) = place.start
 start_number (Err r) = refused_at r
 
 -- the index just after its last word, 0 for a refusal
 abbrev pub end_number : Answer Place → ℕ
-end_number (place_at start end) = end
+end_number (Ok place) = place.end
 end_number (Err r) = 0
 
 -- part 0 is where a row starts, any other its end

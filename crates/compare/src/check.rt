@@ -5,11 +5,12 @@ ghost use Rattle.verdict.specs.Apply.{applied};
 ghost use Rattle.verdict.specs.Bits.{bit_tested};
 ghost use Rattle.judge.specs.FillCheck.{fill_checked};
 ghost use Rattle.compare.specs.Numbers.{refused_at, by_relation};
-ghost use Rattle.compare.specs.Replies.{counts_number, verdict_number, check_number, reply, check_reply, fill_check_reply, chosen_listing, chosen_relation, sum_words, apply_reply, bit_number};
+ghost use Rattle.compare.specs.Replies.{counts_number, verdict_number, check_number, reply, check_reply, fill_check_reply, chosen_listing, chosen_relation, sum_words, apply_reply, found_number, bit_number};
 
 use circuit::Relation;
 use layout::Refusal;
 use strict::Known;
+use verdict::bits::NotBit;
 use verdict::{Counts, Sums, Verdict};
 
 // Where nothing is asked, since too few words are lent, and where there is no word.
@@ -18,7 +19,7 @@ pub const NONE: u64 = 0x8000000000000000;
 pub fn refused_at(r: Refusal) -> u64
     ensures { result ≡ refused_at r }
 {
-    0x8000000000000000 + r.number as u64 * 0x100000000 + r.place.min(0xffffffff) as u64
+    0x8000000000000000 + r.question.number() as u64 * 0x100000000 + r.place.min(0xffffffff) as u64
 }
 
 // One number for bin, another for fld.
@@ -150,18 +151,27 @@ pub fn compare_apply(
     }
 }
 
+fn found_number(found: Option<NotBit>) -> u64
+    requires { found_number found < 2 ^ 64 }
+    ensures { result ≡ found_number found }
+{
+    match found {
+        None => 0,
+        Some(b) => {
+            0x4000000000000000
+                + b.cycle as u64 * 0x1000000000000
+                + b.column as u64 * 0x100000000
+                + b.at as u64
+        }
+    }
+}
+
 fn bit_number(answer: Result<Option<NotBit>, Refusal>) -> u64
     requires { bit_number answer < 2 ^ 64 }
     ensures { result ≡ bit_number answer }
 {
     match answer {
-        Ok(None) => 0,
-        BitAnswer::NotBit { at, column, cycle } => {
-            0x4000000000000000
-                + cycle as u64 * 0x1000000000000
-                + column as u64 * 0x100000000
-                + at as u64
-        }
+        Ok(found) => found_number(found),
         Err(r) => refused_at(r),
     }
 }

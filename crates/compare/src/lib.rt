@@ -21,7 +21,7 @@ ghost use Rattle.base.specs.Bits.{digit};
 ghost use Rattle.layout.specs.Batch.{exponent_of, scratch_fits, geometry_of, mapped, unmapped};
 ghost use Rattle.strict.specs.Known.{listing_of};
 ghost use Rattle.circuit.specs.Batched.{batched, unmapped_row};
-ghost use Rattle.compare.specs.Numbers.{one_of, word_of, geometry_part, geometry_number, column_number, cycle_column_number, cycle_row_number, coefficient_number, mark_number, batch_number};
+ghost use Rattle.compare.specs.Numbers.{one_of, word_of, geometry_part, geometry_number, column_number, cycle_column_number, cycle_row_number, coefficient_number, mark_number, batch_word_number, batch_number};
 ghost use Rattle.compare.specs.Replies.{chosen_listing, chosen_relation};
 
 use crate::check::{by_relation, chosen_listing, chosen_relation, refused_at};
@@ -133,7 +133,7 @@ pub fn compare_way_back(cpi: usize, column: usize, part: u32) -> u64
     ensures { result ≡ cycle_column_number part (unmapped cpi column) }
 {
     match layout::unmap_col(cpi, column) {
-        CycleColumnAnswer::At { column: c, cycle } => one_of(part, c as u64, cycle as u64),
+        Ok(found) => one_of(part, found.column as u64, found.cycle as u64),
         Err(r) => refused_at(r),
     }
 }
@@ -142,7 +142,7 @@ pub fn compare_row_way_back(cpi: usize, relation: u32, batch_row: usize, part: u
     ensures { result ≡ cycle_row_number part (unmapped_row cpi (chosen_relation relation) batch_row) }
 {
     match circuit::batch::unmap_row(cpi, chosen_relation(relation), batch_row) {
-        CycleRowAnswer::At { cycle, row } => one_of(part, row as u64, cycle as u64),
+        Ok(found) => one_of(part, found.row as u64, found.cycle as u64),
         Err(r) => refused_at(r),
     }
 }
@@ -179,9 +179,9 @@ fn mark_number(relation: Relation) -> u64
     by_relation(relation, 3, 4)
 }
 
-fn batch_number(w: BatchWord) -> u64
-    requires { batch_number w < 2 ^ 64 }
-    ensures { result ≡ batch_number w }
+fn batch_word_number(w: BatchWord) -> u64
+    requires { batch_word_number w < 2 ^ 64 }
+    ensures { result ≡ batch_word_number w }
 {
     match w {
         BatchWord::Row { relation, row } => row as u64 + mark_number(relation) * 0x10000000000,
@@ -194,7 +194,16 @@ fn batch_number(w: BatchWord) -> u64
                 + coefficient_number(coefficient) * 0x100000000
                 + circuit::words::side_kind(side) as u64 * 0x10000000000
         }
-        BatchWord::Refused(r) => refused_at(r),
+    }
+}
+
+fn batch_number(answer: Result<BatchWord, Refusal>) -> u64
+    requires { batch_number answer < 2 ^ 64 }
+    ensures { result ≡ batch_number answer }
+{
+    match answer {
+        Ok(w) => batch_word_number(w),
+        Err(r) => refused_at(r),
     }
 }
 

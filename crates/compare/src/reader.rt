@@ -8,6 +8,7 @@ use crate::fills::asked_number;
 use crate::search::word_at;
 use circuit::Relation;
 use circuit::reader::ListingReader;
+use circuit::search::Place;
 use layout::Refusal;
 
 // What the opening answered, and of each row the place, a word of the part, and the position afterwards.
@@ -52,7 +53,7 @@ pub fn start_number(place: Result<Place, Refusal>) -> u64
     ensures { result ≡ start_number place }
 {
     match place {
-        Found::At { start, .. } => start as u64,
+        Ok(found) => found.start as u64,
         Err(r) => refused_at(r),
     }
 }
@@ -61,7 +62,7 @@ pub fn end_number(place: Result<Place, Refusal>) -> u64
     ensures { result ≡ end_number place }
 {
     match place {
-        Found::At { end, .. } => end as u64,
+        Ok(found) => found.end as u64,
         Err(_) => 0,
     }
 }

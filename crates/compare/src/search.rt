@@ -9,6 +9,7 @@ use crate::check::{NONE, chosen_relation};
 use crate::one_of;
 use crate::reader::{end_number, start_number};
 use circuit::Relation;
+use circuit::search::Place;
 use layout::{Question, Refusal};
 
 // Word i, 2^63 past the end.
@@ -54,7 +55,7 @@ fn chosen_place(refused: u32, start: usize, end: usize) -> Result<Place, Refusal
     ensures { result ≡ chosen_place refused start end }
 {
     if refused == 0 {
-        Found::At { start, end }
+        Ok(Place { start, end })
     } else {
         Err(Question::RowSought.refused())
     }

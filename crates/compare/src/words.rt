@@ -2,7 +2,7 @@
 ghost use Rattle.std.specs.Prelude.{◌≡◌, ◌<◌, ◌^◌};
 ghost use Rattle.compare.specs.Numbers.{word_number, word_part};
 
-use crate::{batch_number, coefficient_number, mark_number};
+use crate::{batch_word_number, coefficient_number, mark_number};
 use circuit::Word;
 use circuit::batch::BatchWord;
 
@@ -11,12 +11,12 @@ fn word_number(w: Word) -> u64
     ensures { result ≡ word_number w }
 {
     match w {
-        Word::Mark { relation, row } => batch_number(BatchWord::Row { relation, row }),
+        Word::Mark { relation, row } => batch_word_number(BatchWord::Row { relation, row }),
         Word::Term {
             side,
             coefficient,
             column,
-        } => batch_number(BatchWord::Term {
+        } => batch_word_number(BatchWord::Term {
             side,
             coefficient,
             column,

@@ -7,7 +7,7 @@ use layout::Refusal;
 pub const REFUSED: u64 = 0x8000000000000000;
 
 fn refused_as(r: Refusal, n: u64) -> bool {
-    n == REFUSED + u64::from(r.number)
+    n == REFUSED + u64::from(r.question.number())
 }
 
 // A narrow number stands in the low half of its own.
@@ -75,10 +75,7 @@ pub fn any_column([cpi, column, cycle, at, ..]: [u64; 8]) -> bool {
 
 pub fn way_back([cpi, at, column, cycle, ..]: [u64; 8]) -> bool {
     match layout::unmap_col(cpi as usize, at as usize) {
-        CycleColumnAnswer::At {
-            column: c,
-            cycle: d,
-        } => (c as u64 == column) && (d as u64 == cycle),
+        Ok(found) => (found.column as u64 == column) && (found.cycle as u64 == cycle),
         Err(r) => refused_as(r, column),
     }
 }
