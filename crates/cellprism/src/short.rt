@@ -99,7 +99,7 @@ pub fn short_yes(bytes: &[u8]) -> bool
     requires { length bytes.now ≡ 65536 }
     ensures { result ≡ short_yes House 1 (row_of bytes.now) }
 {
-    if !element(bytes, 2048).same(Gf128::one()) {
+    if element(bytes, 2048) != Gf128::one() {
         return false;
     }
     let mut out = [0u64; 32];

@@ -7,7 +7,7 @@ ghost use Rattle.std.specs.Prelude.{◌≡◌, cond, ◌/◌, ◌^◌};
 ghost use Rattle.field.specs.Gf.{of_words, low, high, value, element, zero, one, same, is_bit, added, product, shifted, power, odd};
 
 // The low word has the coefficients of t^0 to t^63.
-#[derive(Clone, Copy)]
+#[derive(Clone, Copy, Debug, PartialEq, Eq)]
 pub struct Gf128 {
     lo: u64,
     hi: u64,
@@ -42,12 +42,6 @@ impl Gf128 {
         ensures { result ≡ high self }
     {
         self.hi
-    }
-
-    pub fn same(self, rhs: Gf128) -> bool
-        ensures { result ≡ same self rhs }
-    {
-        (self.lo == rhs.lo) & (self.hi == rhs.hi)
     }
 
     // 0 or 1. No branch between the two tests, as no processor could predict which of the two it is.
@@ -131,7 +125,7 @@ impl Gf128 {
         if k >= 128 {
             return Gf128::zero();
         }
-        if self.shr(128 - k).same(Gf128::zero()) {
+        if self.shr(128 - k) == Gf128::zero() {
             return self.shl(k);
         }
         let mut r = self;
@@ -161,7 +155,7 @@ impl Gf128 {
         let mut a = self;
         let mut b = rhs;
         let mut sum = Gf128::zero();
-        while !b.same(Gf128::zero()) {
+        while b != Gf128::zero() {
             sum = sum.add(a.times_bit(b.is_odd()));
             a = a.times_t();
             b = b.shr(1);

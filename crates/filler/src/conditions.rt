@@ -72,7 +72,7 @@ fn write(w: StepWords, f: StepFlags) -> bool
 fn system(w: StepWords, output: Gf128) -> bool
     ensures { result ≡ system w output }
 {
-    !(w.opcode == 0x73) | ((w.rd == w.rs1) & output.same(Gf128::of_words(w.rd, 0)))
+    !(w.opcode == 0x73) | ((w.rd == w.rs1) & (output == Gf128::of_words(w.rd, 0)))
 }
 
 fn load_word(w: StepWords, f: StepFlags) -> bool

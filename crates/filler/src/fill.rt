@@ -64,7 +64,7 @@ fn ask_columns(cpi: usize, batch: &[u64]) -> Result<(), Refusal>
         let question = Question::GivenBits;
         return Err(Refusal { question, place });
     }
-    if !element(batch, 2048 * cpi).same(Gf128::one()) {
+    if element(batch, 2048 * cpi) != Gf128::one() {
         return Err(Question::OneColumn.refused());
     }
     Ok(())

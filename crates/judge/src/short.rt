@@ -87,7 +87,7 @@ pub fn short_yes(which: Known, cpi: usize, batch: &[u64]) -> bool
     match layout::ask_batch(cpi, batch.len()) {
         Err(_) => false,
         Ok(()) => {
-            if !element(batch, 2048 * cpi).same(Gf128::one()) {
+            if element(batch, 2048 * cpi) != Gf128::one() {
                 return false;
             }
             short_bits(which, cpi, batch)

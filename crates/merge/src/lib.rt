@@ -19,7 +19,7 @@ fn differ_at(first: &[u64], second: &[u64], column: usize) -> bool
 {
     let one = Gf128::of_words(first[2 * column], first[2 * column + 1]);
     let other = Gf128::of_words(second[2 * column], second[2 * column + 1]);
-    !one.same(other)
+    one != other
 }
 
 // The first column from start on in which they differ, or end where none does.

@@ -26,18 +26,16 @@ fn elements([alo, ahi, blo, bhi, lo, hi, ..]: [u64; 8]) -> (Gf128, Gf128, Gf128)
 
 pub fn product(n: [u64; 8]) -> bool {
     let (a, b, product) = elements(n);
-    a.mul(b).same(product)
+    a.mul(b) == product
 }
 
 pub fn sum(n: [u64; 8]) -> bool {
     let (a, b, sum) = elements(n);
-    a.add(b).same(sum)
+    a.add(b) == sum
 }
 
 pub fn shift([alo, ahi, k, lo, hi, ..]: [u64; 8]) -> bool {
-    Gf128::of_words(alo, ahi)
-        .shl(low_half(k))
-        .same(Gf128::of_words(lo, hi))
+    Gf128::of_words(alo, ahi).shl(low_half(k)) == Gf128::of_words(lo, hi)
 }
 
 pub fn geometry([cpi, w_cols, m, one_col, w128, ..]: [u64; 8]) -> bool {

@@ -108,7 +108,7 @@ pub fn test_row(cpi: usize, listing: &[u32], from: usize, batch: &[u64], cycle: 
     let row = row_sums(cpi, listing, from, batch, cycle);
     let Sums { a, b, c } = row.sums;
     Tested {
-        holds: a.mul(b).same(c),
+        holds: a.mul(b) == c,
         end: row.end,
     }
 }

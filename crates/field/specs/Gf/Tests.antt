@@ -1,11 +1,12 @@
--- What the two tests on elements say.
-use Rattle.std.specs.Prelude.{◌≡◌, refl, Bool, true, false, ◌&&◌, ◌||◌, ℕ, eqb}
+-- What the tests on elements say.
+use Rattle.std.specs.Prelude.{◌≡◌, refl, Bool, true, false, not, ◌&&◌, ◌||◌, ℕ, eqb}
 use Rattle.std.proofs.Common.{sym, ap, ap₂, ◌∙◌, eqb-true, eq-eqb}
-use Rattle.std.proofs.lemmas.Bool.{false≢true}
+use Rattle.std.proofs.lemmas.Bool.{false≢true, not-true, not-false}
 use Rattle.std.proofs.Math.Bool.{or-true}
 use Rattle.base.specs.Laws.Tests.{both}
 use Rattle.field.specs.declared.Gf128.{Gf128}
 use Rattle.field.specs.Gf.{bit, of_words, low, high, zero, one, same, is_bit, of_bit, odd}
+use Rattle.field.specs.Gf.Words.{same-is}
 use Rattle.field.specs.Gf.Coefficient.{bit-first}
 use Rattle.field.specs.Gf.Element.{value-zero, value-one}
 use Rattle.field.specs.Gf.Laws.{words}
@@ -23,6 +24,19 @@ same_self x = ap₂ ◌&&◌ (eq-eqb (low x) (low x) refl) (eq-eqb (high x) (hig
 
 pub same_false : (x y : Gf128) → same x y ≡ false → x ≡ y → ⊥
 same_false x y f e = false≢true (sym f ∙ ap (same x) (sym e) ∙ same_self x)
+
+-- what `==` and `!=` answer of two elements
+pub eq-same : {r : Bool} (x y : Gf128) → r ≡ (eqb x.lo y.lo && eqb x.hi y.hi) → r ≡ same x y
+eq-same x y e = e ∙ same-is x y
+
+pub ne-not : {r : Bool} (x y : Gf128) → r ≡ not (eqb x.lo y.lo && eqb x.hi y.hi) → r ≡ not (same x y)
+ne-not x y e = e ∙ ap not (same-is x y)
+
+pub ne-differ : {r : Bool} (x y : Gf128) → r ≡ not (eqb x.lo y.lo && eqb x.hi y.hi) → r ≡ true → same x y ≡ false
+ne-differ x y e h = not-true _ (sym (ne-not x y e) ∙ h)
+
+pub ne-same : {r : Bool} (x y : Gf128) → r ≡ not (eqb x.lo y.lo && eqb x.hi y.hi) → r ≡ false → same x y ≡ true
+ne-same x y e h = not-false _ (sym (ne-not x y e) ∙ h)
 
 -- `is_bit` holds of 0 and 1, and of nothing else
 pub is_bit-bit : (b : Bool) → is_bit (of_bit b) ≡ true

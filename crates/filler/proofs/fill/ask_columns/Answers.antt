@@ -4,6 +4,7 @@ use Rattle.std.proofs.Common.{ℕ, leb, sym, ap, ◌∙◌, ap₂, arith, rules,
 use borrow.Author.Tests.{lt-leb}
 use Rattle.base.specs.Laws.Tests.{passed, refused}
 use Rattle.field.specs.Gf.{same}
+use Rattle.field.specs.Gf.Tests.{ne-differ, ne-same}
 use Rattle.layout.specs.Questions.{no}
 use Rattle.layout.specs.Laws.Sizes.{allowed-range}
 use Rattle.filler.proofs.fill.ask_columns.Goals as goal
@@ -24,13 +25,13 @@ overflow_mul-cpi-2 c = search (allowed-range, rules)
 pub element-requires : goal.element-requires
 element-requires c = let p = c.requires in omega (arith, allowed-range _ p.0, p.1)
 
-pub returns-then-not-same : goal.returns-then-not-same
-returns-then-not-same c =
+pub returns-then-ne : goal.returns-then-ne
+returns-then-ne c =
     ap Err c.refused.ensures
-    ∙ refused _ _ _ (sym (c.same.ensures ∙ ap₂ same c.element.ensures c.one.ensures) ∙ c.if-not-same.true)
+    ∙ refused _ _ _ (sym (ap₂ same c.element.ensures c.one.ensures) ∙ ne-differ _ _ c.ne.ensures c.if-ne.true)
     ∙ passed _ _ _ (sym (ap (leb _) c.first_faulty-place.ensures) ∙ le-leb _ _ c.if-place-cpi.false)
 
 pub returns : goal.returns
 returns c =
-    passed _ _ _ (sym (c.same.ensures ∙ ap₂ same c.element.ensures c.one.ensures) ∙ c.if-not-same.false)
+    passed _ _ _ (sym (ap₂ same c.element.ensures c.one.ensures) ∙ ne-same _ _ c.ne.ensures c.if-ne.false)
     ∙ passed _ _ _ (sym (ap (leb _) c.first_faulty-place.ensures) ∙ le-leb _ _ c.if-place-cpi.false)

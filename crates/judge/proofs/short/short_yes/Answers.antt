@@ -3,6 +3,7 @@
 use mathlib.Core.Path.{sym, ap₂, ◌∙◌}
 use native.Mathlib.Omega.{arith}
 use Rattle.field.specs.Gf.{same}
+use Rattle.field.specs.Gf.Tests.{ne-differ, ne-same}
 use Rattle.layout.specs.Laws.Questions.{batch-yes}
 use Rattle.layout.specs.Laws.Sizes.{allowed-range}
 use Rattle.judge.specs.Laws.Short.{not-asked, no_one, left-bits, short-in}
@@ -16,10 +17,10 @@ element-requires c =
     let yes = batch-yes _ _ (sym c.ask_batch.ensures ∙ c.in-Ok.is) in
     omega (arith, yes.1, allowed-range _ yes.0)
 
-pub returns-then-not-same : goal.returns-then-not-same
-returns-then-not-same c =
+pub returns-then-ne : goal.returns-then-ne
+returns-then-ne c =
     no_one _ _ _ (sym c.ask_batch.ensures ∙ c.in-Ok.is)
-    (sym (c.same.ensures ∙ ap₂ same c.element.ensures c.one.ensures) ∙ c.if-not-same.true)
+    (sym (ap₂ same c.element.ensures c.one.ensures) ∙ ne-differ _ _ c.ne.ensures c.if-ne.true)
 
 pub short_bits-requires : goal.short_bits-requires
 short_bits-requires c = short-in _ _ (sym c.ask_batch.ensures ∙ c.in-Ok.is)
@@ -27,8 +28,8 @@ short_bits-requires c = short-in _ _ (sym c.ask_batch.ensures ∙ c.in-Ok.is)
 pub returns-in-Err : goal.returns-in-Err
 returns-in-Err c = not-asked _ _ _ (sym c.ask_batch.ensures ∙ c.in-Err.is)
 
-pub returns-else-not-same : goal.returns-else-not-same
-returns-else-not-same c =
+pub returns-else-ne : goal.returns-else-ne
+returns-else-ne c =
     c.short_bits.ensures
     ∙ left-bits _ _ _ (sym c.ask_batch.ensures ∙ c.in-Ok.is)
-    (sym (c.same.ensures ∙ ap₂ same c.element.ensures c.one.ensures) ∙ c.if-not-same.false)
+    (sym (ap₂ same c.element.ensures c.one.ensures) ∙ ne-same _ _ c.ne.ensures c.if-ne.false)
