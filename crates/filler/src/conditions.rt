@@ -159,12 +159,10 @@ fn conditions(w: StepWords, f: StepFlags, output: Gf128) -> [bool; 10]
 fn first_false(met: [bool; 10]) -> StepAnswer
     ensures { result ≡ first_false met }
 {
-    let mut k: usize = 1;
-    while k < 11 {
-        if !met[k - 1] {
-            return StepAnswer::Unmet(k);
+    for (k, met) in met.iter().enumerate() {
+        if !*met {
+            return StepAnswer::Unmet(k + 1);
         }
-        k = k + 1;
     }
     StepAnswer::Meets
 }

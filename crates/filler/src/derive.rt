@@ -65,7 +65,7 @@ fn run_word(x: u64) -> u64
 pub fn word_of(b: bool) -> u64
     ensures { (result ≡ digit b) × (result < 2) }
 {
-    if b { 1 } else { 0 }
+    u64::from(b)
 }
 
 // Bit x alone.

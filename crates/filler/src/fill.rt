@@ -44,14 +44,12 @@ fn first_faulty(cpi: usize, batch: &[u64]) -> usize
 {
     let columns = 2048 * cpi;
     let k = layout::exponent(cpi);
-    let mut i: usize = 0;
-    while i < columns {
+    for i in 0..columns {
         if is_faulty(k, batch, i) {
             return i;
         }
-        i = i + 1;
     }
-    i
+    columns
 }
 
 // Questions 11 and 12.
@@ -123,10 +121,8 @@ fn fill_cycles(cpi: usize, batch: &mut [u64])
     requires { Passed cpi batch.old }
     ensures { batch.new ≡ filled cpi batch.old }
 {
-    let mut cycle: usize = 0;
-    while cycle < cpi {
+    for cycle in 0..cpi {
         fill_cycle(batch, cpi, cycle);
-        cycle = cycle + 1;
     }
 }
 

@@ -8,22 +8,21 @@ use Rattle.filler.proofs.words.put_word.Goals as goal
 
 pub loop-i-init : goal.loop-i-init
 unfolding put_word
-loop-i-init c = (search rules, sym (div-one _), refl, refl)
+loop-i-init c = (sym (div-one _), refl, refl)
 
 pub loop-i-preserved : goal.loop-i-preserved
 loop-i-preserved c =
     let a = c.args in let l = c.loop-i in
     let p = c.put_bit in (
-      omega arith,
-      half-turn a.w l.i l.invariant.1,
-      p.auto.batch ∙ l.invariant.2,
-      p.ensures ∙ put-turn a.w l.i l.invariant.1 a.cpi a.cycle a.column a.batch.now l.invariant.3,
+      half-turn a.w l.i l.invariant.0,
+      p.auto.batch ∙ l.invariant.1,
+      p.ensures ∙ put-turn a.w l.i l.invariant.0 a.cpi a.cycle a.column a.batch.now l.invariant.2,
     )
 
 pub shape_of-batch : goal.shape_of-batch
-shape_of-batch c = c.loop-i.invariant.2
+shape_of-batch c = c.loop-i.invariant.1
 
 pub returns : goal.returns
 returns c =
     let a = c.args in let l = c.loop-i in
-    l.invariant.3 ∙ ap (λ (i : ℕ). put_word a.cpi a.cycle a.column a.w i a.batch.now) (omega arith)
+    l.invariant.2 ∙ ap (λ (i : ℕ). put_word a.cpi a.cycle a.column a.w i a.batch.now) (omega arith)
