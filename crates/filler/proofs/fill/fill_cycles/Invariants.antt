@@ -5,4 +5,4 @@ use Rattle.filler.specs.Words.{fill_cycles}
 use Rattle.filler.proofs.fill.fill_cycles.Given as goal
 
 abbrev pub invariant-loop-cycle : goal.invariant-loop-cycle
-invariant-loop-cycle l = (0 < l.cpi) × (length l.batch ≡ length l.initial.batch) × (l.batch ≡ fill_cycles l.cpi l.cycle l.initial.batch)
+invariant-loop-cycle l = l.batch ≡ fill_cycles l.cpi l.cycle l.initial.batch

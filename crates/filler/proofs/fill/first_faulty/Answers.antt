@@ -11,18 +11,18 @@ use Rattle.filler.proofs.fill.first_faulty.Goals as goal
 pub loop-i-init : goal.loop-i-init
 loop-i-init c =
     let e = c.exponent-k.ensures in
-    (refl, (omega (arith, e, exponent-below _ c.requires.0), ap (λ (k : ℕ). 2 ^ k) e ∙ exponent-power _ c.requires.0), rw sub-zero)
+    (omega (arith, e, exponent-below _ c.requires.0), ap (λ (k : ℕ). 2 ^ k) e ∙ exponent-power _ c.requires.0, rw sub-zero)
 
 pub returns-then-is_faulty : goal.returns-then-is_faulty
 returns-then-is_faulty c =
     let t = c.loop-i in
-    let size = ap (λ (n : ℕ). faulty n c.args.batch.now t.i) (sym t.invariant.1.1) in
+    let size = ap (λ (n : ℕ). faulty n c.args.batch.now t.i) (sym t.invariant.1) in
     sym (first_stops _ t.i _ c.loop-i-test.true (size ∙ sym c.is_faulty.ensures ∙ c.if-is_faulty.true)) ∙ t.invariant.2
 
 pub loop-i-preserved : goal.loop-i-preserved
 loop-i-preserved c =
     let t = c.loop-i in
-    let size = ap (λ (n : ℕ). faulty n c.args.batch.now t.i) (sym t.invariant.1.1) in (
+    let size = ap (λ (n : ℕ). faulty n c.args.batch.now t.i) (sym t.invariant.1) in (
       t.invariant.0,
       t.invariant.1,
       sym (first_goes _ t.i _ c.loop-i-test.true (size ∙ sym c.is_faulty.ensures ∙ c.if-is_faulty.false)) ∙ t.invariant.2,

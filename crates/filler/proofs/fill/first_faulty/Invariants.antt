@@ -6,4 +6,4 @@ use Rattle.step.specs.Fill.{faulty, first_faulty}
 use Rattle.filler.proofs.fill.first_faulty.Given as goal
 
 abbrev pub invariant-loop-i : goal.invariant-loop-i
-invariant-loop-i l = (l.columns ≡ 2048 * l.cpi) × ((l.k < 9) × (2 ^ l.k ≡ l.cpi)) × (first_from (faulty l.cpi l.batch) l.i (l.columns - l.i) ≡ first_faulty l.cpi l.batch)
+invariant-loop-i l = (l.k < 9) × (2 ^ l.k ≡ l.cpi) × (first_from (faulty l.cpi l.batch) l.i (l.columns - l.i) ≡ first_faulty l.cpi l.batch)

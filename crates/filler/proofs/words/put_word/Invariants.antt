@@ -5,4 +5,4 @@ use Rattle.filler.specs.Blocks.{put_word}
 use Rattle.filler.proofs.words.put_word.Given as goal
 
 abbrev pub invariant-loop-i : goal.invariant-loop-i
-invariant-loop-i l = (l.rest ≡ l.w / 2 ^ l.i) × (length l.batch ≡ length l.initial.batch) × (l.batch ≡ put_word l.cpi l.cycle l.column l.w l.i l.initial.batch)
+invariant-loop-i l = (l.rest ≡ l.w / 2 ^ l.i) × (l.batch ≡ put_word l.cpi l.cycle l.column l.w l.i l.initial.batch)
