@@ -1,19 +1,11 @@
 -- `filler::conditions::first_unmet` meets its contract: the questions in their order, and then the first condition that is not met.
 -- Assumes nothing.
-use Rattle.std.proofs.Common.{sym, ◌∙◌, rules}
+use Rattle.std.proofs.Common.{sym, ◌∙◌}
 use Rattle.layout.specs.Laws.Questions.{asking}
 use Rattle.layout.specs.Laws.Sizes.{allowed-range}
 use Rattle.step.proofs.Laws.FillAnswers.{all-passed}
 use Rattle.filler.specs.Met.{step_answer}
 use Rattle.filler.proofs.conditions.first_unmet.Goals as goal
-
-pub ask-requires : goal.ask-requires
-unfolding step_answer
-ask-requires c = search rules
-
-pub refused-requires : goal.refused-requires
-unfolding step_answer
-refused-requires c = search rules
 
 pub returns-then-cpi-cycle : goal.returns-then-cpi-cycle
 unfolding step_answer

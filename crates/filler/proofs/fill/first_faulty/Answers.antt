@@ -1,9 +1,8 @@
 -- `filler::fill::first_faulty` meets its contract: the search from here finds what the whole search does, at every turn.
 -- Assumes nothing.
-use Rattle.std.proofs.Common.{◌≡◌, ℕ, ◌*◌, ◌^◌, sym, refl, ap, ◌∙◌, arith, rules}
+use Rattle.std.proofs.Common.{◌≡◌, ℕ, ◌*◌, ◌^◌, sym, ap, ◌∙◌, arith}
 use native.Mathlib.Nat.{sub-zero}
 use Rattle.base.specs.Laws.First.{first_stops, first_goes, first_ends}
-use Rattle.layout.specs.Laws.Sizes.{allowed-range}
 use Rattle.layout.specs.Laws.Exponent.{exponent-power, exponent-below}
 use Rattle.step.specs.Fill.{faulty}
 use Rattle.filler.proofs.fill.first_faulty.Goals as goal

@@ -1,6 +1,6 @@
 -- `filler::fill::first_faulty` meets its contract: the search from here finds what the whole search does, at every turn.
 -- Assumes nothing.
-use Rattle.std.proofs.Common.{◌≡◌, ◌-◌, ◌*◌, ◌^◌, ◌<◌, ◌≤◌}
+use Rattle.std.proofs.Common.{◌≡◌, ◌-◌, ◌^◌, ◌<◌}
 use Rattle.base.specs.Tests.{first_from}
 use Rattle.step.specs.Fill.{faulty, first_faulty}
 use Rattle.filler.proofs.fill.first_faulty.Given as goal

@@ -1,6 +1,6 @@
 -- `filler::words::put_word` meets its contract: the columns passed hold the bits of w, and `rest` is w without them.
 -- Assumes nothing.
-use Rattle.std.proofs.Common.{ℕ, sym, refl, ap, ◌∙◌, div-one, arith}
+use Rattle.std.proofs.Common.{sym, refl, ◌∙◌, div-one}
 use Rattle.filler.specs.Blocks.{put_word}
 use Rattle.base.specs.Laws.Words.{half-turn}
 use Rattle.filler.specs.Laws.Loops.{put-turn}
@@ -16,8 +16,3 @@ loop-i-preserved c =
       half-turn a.w l.i l.invariant.0,
       c.put_bit.ensures ∙ put-turn a.w l.i l.invariant.0 a.cpi a.cycle a.column a.batch.now l.invariant.1,
     )
-
-pub returns : goal.returns
-returns c =
-    let a = c.args in let l = c.loop-i in
-    l.invariant.1 ∙ ap (λ (i : ℕ). put_word a.cpi a.cycle a.column a.w i a.batch.now) (omega arith)

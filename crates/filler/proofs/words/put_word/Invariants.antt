@@ -1,6 +1,6 @@
 -- `filler::words::put_word` meets its contract: the columns passed hold the bits of w, and `rest` is w without them.
 -- Assumes nothing.
-use Rattle.std.proofs.Common.{◌≡◌, ◌-◌, ◌/◌, ◌^◌, ◌≤◌, length}
+use Rattle.std.proofs.Common.{◌≡◌, ◌/◌, ◌^◌}
 use Rattle.filler.specs.Blocks.{put_word}
 use Rattle.filler.proofs.words.put_word.Given as goal
 

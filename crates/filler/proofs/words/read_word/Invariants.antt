@@ -1,6 +1,6 @@
 -- `filler::words::read_word` meets its contract: from the top bit down, w is the word of the columns passed.
 -- Assumes nothing.
-use Rattle.std.proofs.Common.{◌≡◌, ◌+◌, ◌-◌, ◌≤◌}
+use Rattle.std.proofs.Common.{◌≡◌, ◌+◌, ◌-◌}
 use Rattle.base.specs.Bits.{word}
 use Rattle.verdict.specs.Row.{bits_of}
 use Rattle.filler.proofs.words.read_word.Given as goal
