@@ -7,7 +7,6 @@ ghost use Rattle.filler.specs.Met.{byte_of, arithmetic, shift, write, system, lo
 
 use crate::bits::{
     Flags, IS_ARITH_BIT, IS_SHIFT_BIT, IS_STORE_BIT, OFF_BIT, RAM_ADDR_BIT, SUB_BIT, flags_of, nth,
-    xor,
 };
 use crate::derive::{GivenWords, word_of};
 use crate::fill::ask;
@@ -120,7 +119,7 @@ fn second_zero(w: StepWords, f: StepFlags) -> bool
 fn address(w: StepWords, f: StepFlags) -> bool
     ensures { result ≡ address w f }
 {
-    !xor(f.gates.load, f.is_store) | (f.ram_addr == (w.alu >> 3) % 256)
+    !(f.gates.load ^ f.is_store) | (f.ram_addr == (w.alu >> 3) % 256)
 }
 
 // Of the strict conditions (document 02, request 6): no cycle both loads and stores.

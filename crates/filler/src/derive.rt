@@ -8,7 +8,7 @@ ghost use Rattle.filler.specs.Words.{top_bits_of, lanes_of, branches_of, derived
 
 use crate::bits::{
     BEQ, BGE, BGE_BIT, BGEU, BGEU_BIT, BLT, BLTU, BNE, BNE_BIT, CEQ_BIT, CLT_BIT, CLU_BIT,
-    FUNCT3_BIT, Flags, OFF_BIT, OPBR_BIT, SUB_BIT, TOP_BIT, flags_of, nth, xor,
+    FUNCT3_BIT, Flags, OFF_BIT, OPBR_BIT, SUB_BIT, TOP_BIT, flags_of, nth,
 };
 use layout::columns::OPSYS;
 
@@ -128,7 +128,7 @@ fn picked(e: u64, i: usize, j: usize, v: bool) -> bool
     requires { (i < 64) × (j < 64) }
     ensures { result ≡ ((bit_at e i ⊻ bit_at e j) && v) }
 {
-    xor(nth(e, i), nth(e, j)) & v
+    (nth(e, i) ^ nth(e, j)) & v
 }
 
 // Nine bits as a word, the first lowest.
@@ -154,14 +154,14 @@ fn word_of_nine(
 fn compare_word(e: u64, t: TopBits, f: Flags) -> u64
     ensures { (result ≡ compare_word e t f) × (result < 512) }
 {
-    let signs = xor(t.rs1, t.rs2);
+    let signs = t.rs1 ^ t.rs2;
     let ltsa = signs & t.rs1;
-    let ltsb = xor(signs, true) & t.alu;
+    let ltsb = !signs & t.alu;
     let ltua = t.t1 & t.t2;
-    let ltub = t.carry & xor(t.t1, t.t2);
+    let ltub = t.carry & (t.t1 ^ t.t2);
     let ceq = picked(e, BEQ, BNE, t.zero);
-    let clt = picked(e, BLT, BGE, xor(ltsa, ltsb));
-    let clu = picked(e, BLTU, BGEU, xor(xor(ltua, ltub), true));
+    let clt = picked(e, BLT, BGE, ltsa ^ ltsb);
+    let clu = picked(e, BLTU, BGEU, !(ltua ^ ltub));
     word_of_nine(
         ltsa,
         ltsb,
@@ -207,9 +207,9 @@ fn branches_word(g: GivenWords, carry: u64, zeros: u64) -> u64
 pub fn taken_bit(w: u64) -> u64
     ensures { result ≡ digit (taken_bit w) }
 {
-    let eq = xor(nth(w, CEQ_BIT), nth(w, BNE_BIT));
-    let signed = xor(xor(eq, nth(w, CLT_BIT)), nth(w, BGE_BIT));
-    let any = xor(xor(signed, nth(w, CLU_BIT)), nth(w, BGEU_BIT));
+    let eq = nth(w, CEQ_BIT) ^ nth(w, BNE_BIT);
+    let signed = eq ^ nth(w, CLT_BIT) ^ nth(w, BGE_BIT);
+    let any = signed ^ nth(w, CLU_BIT) ^ nth(w, BGEU_BIT);
     word_of(nth(w, OPBR_BIT) & any)
 }
 
