@@ -1,5 +1,5 @@
 // The derived columns of a cycle, worked out by words. The row maker calls this, too.
-ghost use Rattle.std.specs.Prelude.{◌≡◌, ◌*◌, ◌<◌, ◌&&◌, [], ◌∷◌};
+ghost use Rattle.std.specs.Prelude.{◌≡◌, ◌*◌, ◌^◌, ◌<◌, ◌&&◌};
 ghost use Rattle.base.specs.Bits.{digit, ◌⊻◌, bit_at};
 ghost use Rattle.base.specs.Fields.{pack, flags};
 ghost use Rattle.filler.specs.Lanes.{hot, pair};
@@ -131,23 +131,16 @@ fn picked(e: u64, i: usize, j: usize, v: bool) -> bool
     (nth(e, i) ^ nth(e, j)) & v
 }
 
-// Nine bits as a word, the first lowest.
-fn word_of_nine(
-    a: bool,
-    b: bool,
-    c: bool,
-    d: bool,
-    e: bool,
-    f: bool,
-    g: bool,
-    h: bool,
-    i: bool,
-) -> u64
-    ensures { (result ≡ pack (flags (a ∷ b ∷ c ∷ d ∷ e ∷ f ∷ g ∷ h ∷ i ∷ []))) × (result < 512) }
+// Bits as a word, the first lowest.
+pub fn word_of_bits<const N: usize>(bits: [bool; N]) -> u64
+    requires { N < 64 }
+    ensures { (result ≡ pack (flags bits.entry)) × (result < 2 ^ N) }
 {
-    let high = word_of(f) + 2 * (word_of(g) + 2 * (word_of(h) + 2 * word_of(i)));
-    word_of(a)
-        + 2 * (word_of(b) + 2 * (word_of(c) + 2 * (word_of(d) + 2 * (word_of(e) + 2 * high))))
+    let mut w = 0;
+    for i in (0..N).rev() {
+        w = word_of(bits[i]) + 2 * w;
+    }
+    w
 }
 
 // LTSA to ZE8; e has the bit of funct3 alone.
@@ -162,7 +155,7 @@ fn compare_word(e: u64, t: TopBits, f: Flags) -> u64
     let ceq = picked(e, BEQ, BNE, t.zero);
     let clt = picked(e, BLT, BGE, ltsa ^ ltsb);
     let clu = picked(e, BLTU, BGEU, !(ltua ^ ltub));
-    word_of_nine(
+    word_of_bits([
         ltsa,
         ltsb,
         ltua,
@@ -172,7 +165,7 @@ fn compare_word(e: u64, t: TopBits, f: Flags) -> u64
         clu,
         !f.whole & f.load,
         !f.whole & !f.half & f.load,
-    )
+    ])
 }
 
 fn top_bits_of(g: GivenWords, carry: u64, zeros: u64) -> TopBits

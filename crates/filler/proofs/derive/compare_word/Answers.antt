@@ -13,6 +13,6 @@ pub returns : goal.returns
 returns c =
     let a = c.args in (
       compare-is a.e a.t a.f (xor_is _ _) (not_is _) (xor_is _ _) c.picked-ceq.ensures (xor_is _ _) c.picked-clt.ensures
-          (xor_is _ _) (not_is _) c.picked-clu.ensures c.word_of_nine.ensures.0,
-      c.word_of_nine.ensures.1,
+          (xor_is _ _) (not_is _) c.picked-clu.ensures c.word_of_bits.ensures.0,
+      c.word_of_bits.ensures.1,
     )
