@@ -60,7 +60,7 @@ fn byte_of(x: u64, k: u64) -> u64
 fn arithmetic(w: StepWords, f: StepFlags) -> bool
     ensures { result ≡ arithmetic w f }
 {
-    let sum = std::num::wrapping_add_u64(std::num::wrapping_add_u64(w.t1, w.t2), word_of(f.sub));
+    let sum = w.t1.wrapping_add(w.t2).wrapping_add(word_of(f.sub));
     !f.is_arith | (w.alu == sum)
 }
 

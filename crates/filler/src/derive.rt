@@ -51,15 +51,14 @@ fn carry_word(a: u64, b: u64, s: u64) -> u64
     requires { s < 2 }
     ensures { result ≡ carry_word a b s }
 {
-    let sum = std::num::wrapping_add_u64(std::num::wrapping_add_u64(a, b), s);
-    a ^ b ^ sum
+    a ^ b ^ a.wrapping_add(b).wrapping_add(s)
 }
 
 // Which bits of x have none set at or below them: those that x - 1 has and x has not.
 fn run_word(x: u64) -> u64
     ensures { result ≡ run_word x }
 {
-    std::num::wrapping_add_u64(x, 0xffff_ffff_ffff_ffff) & !x
+    x.wrapping_sub(1) & !x
 }
 
 pub fn word_of(b: bool) -> u64
