@@ -11,16 +11,8 @@ ghost use Rattle.base.specs.Written.{Written};
 
 use crate::records::{CycleRecord, RomRow};
 use crate::upper::{ask_public, write_upper};
-use filler::derive::{GivenWords, derive, word_of};
+use filler::derive::{GivenWords, derive, word_of, word_of_bits};
 use layout::Asked;
-
-// Six bits as a word, the first lowest.
-fn word_of_six(a: bool, b: bool, c: bool, d: bool, e: bool, f: bool) -> u64
-    ensures { (result ≡ pack (flags (a ∷ b ∷ c ∷ d ∷ e ∷ f ∷ []))) × (result < 64) }
-{
-    let high = word_of(d) + 2 * (word_of(e) + 2 * word_of(f));
-    word_of(a) + 2 * (word_of(b) + 2 * (word_of(c) + 2 * high))
-}
 
 fn subtracts(cycle: CycleRecord) -> bool
     ensures { result ≡ subtracts cycle }
@@ -32,22 +24,22 @@ fn subtracts(cycle: CycleRecord) -> bool
 fn flags_word(cycle: CycleRecord) -> u64
     ensures { result ≡ flags_word cycle }
 {
-    let low = word_of_six(
+    let low = word_of_bits([
         subtracts(cycle),
         cycle.we,
         cycle.is_load,
         cycle.is_store,
         cycle.is_arith,
         cycle.halted_latch,
-    );
-    let high = word_of_six(
+    ]);
+    let high = word_of_bits([
         cycle.is_shift,
         cycle.is_logic,
         cycle.ld_byte,
         cycle.ld_half,
         cycle.ld_word,
         cycle.branch_taken,
-    );
+    ]);
     let off = cycle.byte_offset as u64 % 8;
     let address = cycle.ram_addr as u64 % 256;
     let pc = cycle.micro_pc as u64 % 256;
@@ -81,7 +73,7 @@ fn second_operand(cycle: CycleRecord) -> u64
     ensures { result ≡ second_operand cycle }
 {
     if subtracts(cycle) {
-        return 0xffff_ffff_ffff_ffff - cycle.alu_b;
+        return !cycle.alu_b;
     }
     cycle.alu_b
 }
@@ -90,8 +82,8 @@ fn alu(cycle: CycleRecord) -> u64
     ensures { result ≡ alu_of cycle }
 {
     if cycle.is_arith {
-        let sum = std::num::wrapping_add_u64(cycle.alu_a, second_operand(cycle));
-        return std::num::wrapping_add_u64(sum, word_of(subtracts(cycle)));
+        let sum = cycle.alu_a.wrapping_add(second_operand(cycle));
+        return sum.wrapping_add(word_of(subtracts(cycle)));
     }
     cycle.alu_out
 }
@@ -145,29 +137,20 @@ fn write_word(w: u64, start: usize, row: &mut [u64])
     ensures { Written (bits_from start w) start (start + 128) row.old row.new }
 {
     let mut rest = w;
-    let mut i: usize = 0;
-    while i < 64 {
+    for i in 0..64 {
         row[start + 2 * i] = rest % 2;
         row[start + 2 * i + 1] = 0;
-        rest = rest / 2;
-        i = i + 1;
+        rest /= 2;
     }
-}
-
-fn word_or_zero(words: &[u64], j: usize) -> u64
-    ensures { result ≡ slice_index words.now j }
-{
-    if j < words.len() { words[j] } else { 0 }
 }
 
 fn write_words(words: &[u64], row: &mut [u64])
     requires { 4096 ≤ length row.old }
     ensures { Written (bit_word (bit_in words.now)) 0 4096 row.old row.new }
 {
-    let mut j: usize = 0;
-    while j < 32 {
-        write_word(word_or_zero(words, j), 128 * j, row);
-        j = j + 1;
+    for j in 0..32 {
+        let w = words.get(j).copied().unwrap_or(0);
+        write_word(w, 128 * j, row);
     }
 }
 

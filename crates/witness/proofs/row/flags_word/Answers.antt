@@ -12,5 +12,5 @@ returns c =
     let rest = a.byte_offset % 2 ^ 3 + 2 ^ 8 * (a.ram_addr % 2 ^ 8 + 2 ^ 8 * (a.micro_pc % 2 ^ 8)) in
     let others = a.we ∷ a.is_load ∷ a.is_store ∷ a.is_arith ∷ a.halted_latch ∷ [] in
     ap₂ (λ (l h : ℕ). l + 2 ^ 6 * (h + 2 ^ 10 * rest))
-    (c.word_of_six-low.ensures.0 ∙ ap (λ (b : Bool). pack (flags (b ∷ others))) c.subtracts.ensures)
-    c.word_of_six-high.ensures.0
+    (c.word_of_bits-low.ensures.0 ∙ ap (λ (b : Bool). pack (flags (b ∷ others))) c.subtracts.ensures)
+    c.word_of_bits-high.ensures.0

@@ -7,9 +7,6 @@ use Rattle.witness.specs.RowWords.{bit_in}
 use Rattle.witness.specs.Laws.Halves.{halves-written}
 use Rattle.witness.proofs.row.write_row.Goals as goal
 
-pub write_upper-requires : goal.write_upper-requires
-write_upper-requires c = omega (arith, c.write_words.ensures.lengths)
-
 pub returns : goal.returns
 returns c =
     let a = c.args in

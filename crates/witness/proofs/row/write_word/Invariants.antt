@@ -6,7 +6,4 @@ use Rattle.witness.specs.RowWords.{bits_from}
 use Rattle.witness.proofs.row.write_word.Given as goal
 
 abbrev pub invariant-loop-i : goal.invariant-loop-i
-invariant-loop-i l = (l.i ≤ 64) × (l.rest ≡ l.w / 2 ^ l.i) × Written (bits_from l.start l.w) l.start (l.start + 2 * l.i) l.initial.row l.row
-
-abbrev pub decreases-loop-i : goal.decreases-loop-i
-decreases-loop-i l = 64 - l.i
+invariant-loop-i l = (l.rest ≡ l.w / 2 ^ l.i) × Written (bits_from l.start l.w) l.start (l.start + 2 * l.i) l.initial.row l.row

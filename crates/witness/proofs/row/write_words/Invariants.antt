@@ -7,7 +7,4 @@ use Rattle.witness.specs.RowWords.{bit_in}
 use Rattle.witness.proofs.row.write_words.Given as goal
 
 abbrev pub invariant-loop-j : goal.invariant-loop-j
-invariant-loop-j l = (l.j ≤ 32) × Written (bit_word (bit_in l.words)) 0 (128 * l.j) l.initial.row l.row
-
-abbrev pub decreases-loop-j : goal.decreases-loop-j
-decreases-loop-j l = 32 - l.j
+invariant-loop-j l = Written (bit_word (bit_in l.words)) 0 (128 * l.j) l.initial.row l.row
