@@ -9,6 +9,7 @@ use crate::upper::{ask_public, write_upper};
 use layout::Asked;
 
 // Questions 1 to 4, of the numbers of words.
+#[tactic(auto, using(layout::specs::Laws::Questions::asking), unfolding(crate::specs::Assembly::assembly_asked))]
 fn ask(cpi: usize, cycles: usize, public: usize, batch: usize) -> Asked
     ensures { result ≡ assembly_asked cpi cycles public batch }
 {

@@ -21,6 +21,7 @@ fn subtracts(cycle: CycleRecord) -> bool
 }
 
 // Columns 768 to 831.
+#[tactic(auto, unfolding(crate::specs::RowWords::flags_word))]
 fn flags_word(cycle: CycleRecord) -> u64
     ensures { result ≡ flags_word cycle }
 {
@@ -56,6 +57,7 @@ fn bus_rd(rd: usize) -> u64
 }
 
 // Columns 832 to 895.
+#[tactic(auto, unfolding(crate::specs::RowWords::bus_word))]
 fn bus_word(rom: RomRow) -> u64
     ensures { result ≡ bus_word rom }
 {

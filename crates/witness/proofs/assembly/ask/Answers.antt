@@ -1,23 +1,9 @@
--- `witness::assembly::ask` meets its contract: questions 1 to 3, and then the one on the cycles.
+-- `witness::assembly::ask` meets its contract: where questions 1 to 3 are passed, the size is allowed.
 -- Assumes nothing.
 use Rattle.std.proofs.Common.{sym, ◌∙◌, arith}
-use Rattle.layout.specs.Laws.Questions.{asking}
 use Rattle.layout.specs.Laws.Sizes.{allowed-range}
-use Rattle.witness.specs.Assembly.{assembly_asked}
 use Rattle.witness.specs.Laws.Upper.{public-yes}
 use Rattle.witness.proofs.assembly.ask.Goals as goal
 
 pub overflow_mul-cpi : goal.overflow_mul-cpi
 overflow_mul-cpi c = omega (arith, allowed-range _ (public-yes _ _ _ (sym c.ask_public.ensures ∙ c.in-Yes.is)).0)
-
-pub returns-then-cycles-cpi : goal.returns-then-cycles-cpi
-unfolding assembly_asked
-returns-then-cycles-cpi c = search asking
-
-pub returns-in-No : goal.returns-in-No
-unfolding assembly_asked
-returns-in-No c = search asking
-
-pub returns-else-cycles-cpi : goal.returns-else-cycles-cpi
-unfolding assembly_asked
-returns-else-cycles-cpi c = search asking

@@ -1,6 +1,6 @@
 -- `witness::assembly::write_column` meets its contract: the cycles passed stand side by side.
 -- Assumes nothing.
-use Rattle.std.proofs.Common.{◌≡◌, ℕ, ◌+◌, ◌-◌, ◌*◌, ◌<◌, ◌≤◌, length, get_or, sym, refl, ap, ◌∙◌, add-zero, arith, length-set}
+use Rattle.std.proofs.Common.{◌≡◌, ℕ, ◌+◌, ◌-◌, ◌*◌, ◌<◌, ◌≤◌, length, get_or, sym, ap, ◌∙◌, add-zero, arith}
 use lib.Arith.{digits_lt}
 use Rattle.layout.specs.Laws.Sizes.{allowed-range}
 use Rattle.witness.specs.Assembly.{cycle_word}

@@ -1,6 +1,6 @@
 -- `witness::assembly::write_column` meets its contract: the cycles passed stand side by side.
 -- Assumes nothing.
-use Rattle.std.proofs.Common.{◌≡◌, ◌+◌, ◌-◌, ◌*◌, ◌≤◌}
+use Rattle.std.proofs.Common.{◌+◌, ◌*◌, ◌≤◌}
 use Rattle.witness.specs.Assembly.{cycle_word}
 use Rattle.base.specs.Written.{Written}
 use Rattle.witness.proofs.assembly.write_column.Given as goal

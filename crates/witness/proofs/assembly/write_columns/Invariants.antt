@@ -1,6 +1,6 @@
 -- `witness::assembly::write_columns` meets its contract: the columns passed are written.
 -- Assumes nothing.
-use Rattle.std.proofs.Common.{◌-◌, ◌*◌, ◌≤◌}
+use Rattle.std.proofs.Common.{◌*◌}
 use Rattle.witness.specs.Assembly.{cycle_word}
 use Rattle.base.specs.Written.{Written}
 use Rattle.witness.proofs.assembly.write_columns.Given as goal

@@ -1,6 +1,6 @@
 -- `witness::row::write_row` meets its contract: both halves, one behind the other.
 -- Assumes nothing.
-use Rattle.std.proofs.Common.{refl, arith}
+use Rattle.std.proofs.Common.{refl}
 use Rattle.layout.specs.Batch.{ROW-WORDS}
 use Rattle.witness.specs.Row.{bit_word}
 use Rattle.witness.specs.RowWords.{bit_in}

@@ -1,8 +1,8 @@
 -- `witness::row::write_word` meets its contract: the columns passed hold the bits of w, and `rest` is w without them.
 -- Assumes nothing.
-use Rattle.std.proofs.Common.{◌≡◌, ℕ, ◌+◌, ◌*◌, ◌%◌, sym, ap, ◌∙◌, add-zero, div-one, arith, length-set}
+use Rattle.std.proofs.Common.{◌≡◌, ℕ, ◌+◌, ◌*◌, ◌%◌, ap, ◌∙◌, arith}
 use Rattle.base.specs.Laws.Words.{half-turn}
-use Rattle.base.specs.Laws.Written.{written_none, written-more, written-to}
+use Rattle.base.specs.Laws.Written.{written-more, written-to}
 use Rattle.witness.specs.Laws.RowWords.{low_word, high_word}
 use Rattle.witness.proofs.row.write_word.Goals as goal
 

@@ -1,6 +1,6 @@
 -- `witness::row::write_word` meets its contract: the columns passed hold the bits of w, and `rest` is w without them.
 -- Assumes nothing.
-use Rattle.std.proofs.Common.{◌≡◌, ◌+◌, ◌-◌, ◌*◌, ◌/◌, ◌^◌, ◌≤◌}
+use Rattle.std.proofs.Common.{◌≡◌, ◌+◌, ◌*◌, ◌/◌, ◌^◌}
 use Rattle.base.specs.Written.{Written}
 use Rattle.witness.specs.RowWords.{bits_from}
 use Rattle.witness.proofs.row.write_word.Given as goal

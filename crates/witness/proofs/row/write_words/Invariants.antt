@@ -1,6 +1,6 @@
 -- `witness::row::write_words` meets its contract: the words passed are written.
 -- Assumes nothing.
-use Rattle.std.proofs.Common.{◌-◌, ◌*◌, ◌≤◌}
+use Rattle.std.proofs.Common.{◌*◌}
 use Rattle.base.specs.Written.{Written}
 use Rattle.witness.specs.Row.{bit_word}
 use Rattle.witness.specs.RowWords.{bit_in}

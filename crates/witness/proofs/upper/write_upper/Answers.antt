@@ -1,6 +1,5 @@
 -- `witness::upper::write_upper` meets its contract: its three pieces one behind the other.
 -- Assumes nothing.
-use Rattle.std.proofs.Common.{arith, length-set}
 use Rattle.witness.specs.Laws.Halves.{upper-written}
 use Rattle.witness.proofs.upper.write_upper.Goals as goal
 
