@@ -1,13 +1,6 @@
--- `merge::merge` meets its contract: the questions pick the case; where they are passed, the merged batch is written.
+-- `merge::merge` meets its contract: where the questions are passed, the parts are what the merged batch is made of.
 -- Assumes nothing.
-use mathlib.Core.Path.{sym, ap, ◌∙◌}
-use mathlib.Core.List.{List}
-use Prim.Native.Nat.{ℕ}
-use Rattle.layout.specs.declared.Asked.{Asked}
-use Rattle.layout.specs.declared.Asked.TheVariants.{Yes}
-use Rattle.layout.specs.Questions.{after}
-use Rattle.merge.specs.Merged.{merged}
-use Rattle.merge.specs.Calls.{merge_called}
+use mathlib.Core.Path.{sym, ◌∙◌}
 use Rattle.merge.specs.Laws.Answers.{all-passed, parts}
 use Rattle.merge.proofs.merge.Goals as goal
 
@@ -16,18 +9,3 @@ write_batch-requires c =
     let a = c.args in
     let s = (all-passed _ a.first.now _ a.second.now _ (sym c.ask-asked.ensures ∙ c.in-Yes.is)).sizes-passed in
     (parts _ a.first.now _ a.second.now _ s, s.room-words)
-
-pub returns-in-No : goal.returns-in-No
-unfolding merge_called
-returns-in-No c =
-    let a = c.args in
-    ap (λ (q : Asked). after q (merged a.first_cpi a.first.now a.second.now) a.batch.now)
-    (sym c.in-No.is ∙ c.ask-asked.ensures)
-
-pub returns-in-Yes : goal.returns-in-Yes
-unfolding merge_called
-returns-in-Yes c =
-    let a = c.args in
-    ap (λ (b : List ℕ). record { answer = Yes; batch = b }) c.write_batch.ensures
-    ∙ ap (λ (q : Asked). after q (merged a.first_cpi a.first.now a.second.now) a.batch.now)
-    (sym c.in-Yes.is ∙ c.ask-asked.ensures)

@@ -1,9 +1,0 @@
--- `merge::differ_at` meets its contract: the words read are those of the column in either batch.
--- Assumes nothing.
-use mathlib.Core.Path.{ap, ap₂, ◌∙◌}
-use mathlib.Core.Bool.{not}
-use Rattle.field.specs.Gf.{same}
-use Rattle.merge.proofs.differ_at.Goals as goal
-
-pub returns : goal.returns
-returns c = ap not (c.same.ensures ∙ ap₂ same c.of_words-one.ensures c.of_words-other.ensures)
