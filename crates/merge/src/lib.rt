@@ -36,7 +36,7 @@ fn first_differing(first: &[u64], second: &[u64], start: usize, end: usize) -> u
 }
 
 // Questions 1 of either size, 19, and 2 of all three lengths.
-#[tactic(auto, using(layout::specs::Laws::Questions::asking), unfolding(crate::specs::Calls::sizes_asked))]
+#[tactic(auto, unfolding(crate::specs::Calls::sizes_asked))]
 fn ask_sizes(first_cpi: usize, first: usize, second_cpi: usize, second: usize, room: usize) -> Asked
     ensures { result ≡ sizes_asked first_cpi first second_cpi second room }
 {
@@ -65,7 +65,7 @@ fn ask_sizes(first_cpi: usize, first: usize, second_cpi: usize, second: usize, r
 }
 
 // And then 20, whose place is a column of a given batch.
-#[tactic(auto, using(layout::specs::Laws::Questions::asking), unfolding(crate::specs::Calls::merge_asked, crate::specs::Calls::first_differing))]
+#[tactic(auto, unfolding(crate::specs::Calls::merge_asked))]
 fn ask(first_cpi: usize, first: &[u64], second_cpi: usize, second: &[u64], room: usize) -> Asked
     ensures { result ≡ merge_asked first_cpi first.now second_cpi second.now room }
 {
