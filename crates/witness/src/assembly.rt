@@ -9,7 +9,7 @@ use crate::upper::{ask_public, write_upper};
 use layout::Asked;
 
 // Questions 1 to 4, of the numbers of words.
-#[tactic(auto, using(layout::specs::Laws::Questions::asking), unfolding(crate::specs::Assembly::assembly_asked))]
+#[tactic(auto, unfolding(crate::specs::Assembly::assembly_asked))]
 fn ask(cpi: usize, cycles: usize, public: usize, batch: usize) -> Asked
     ensures { result ≡ assembly_asked cpi cycles public batch }
 {
@@ -57,6 +57,7 @@ fn assemble(cpi: usize, cycles: &[u64], public: &[u64], batch: &mut [u64])
 }
 
 // A no leaves the batch as it came; a yes leaves nothing of it.
+#[tactic(auto, unfolding(crate::specs::Assembly::assembly_called))]
 pub fn assemble_instance_z(cpi: usize, cycles: &[u64], public: &[u64], batch: &mut [u64]) -> Asked
     ensures { ◌≡◌ {A = Called} (record { answer = result; batch = batch.new })
         (assembly_called cpi cycles.now public.now batch.old) }

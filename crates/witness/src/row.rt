@@ -165,6 +165,7 @@ fn write_row(words: &[u64], public: &[u64], row: &mut [u64])
 }
 
 // Questions 2 and 3: a row is a batch of one cycle. A no leaves the row as it came; a yes leaves nothing of it.
+#[tactic(auto, unfolding(crate::specs::Row::row_called))]
 pub fn witness_row(cycle: CycleRecord, rom: RomRow, public: &[u64], row: &mut [u64]) -> Asked
     ensures { ◌≡◌ {A = Called} (record { answer = result; batch = row.new })
         (row_called cycle rom public.now row.old) }

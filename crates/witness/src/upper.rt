@@ -17,7 +17,7 @@ fn public_fits(words: usize, most: usize) -> bool
 }
 
 // Questions 1 to 3, of the numbers of words: the public values', the batch's.
-#[tactic(auto, using(layout::specs::Laws::Questions::asking), unfolding(crate::specs::Upper::public_asked))]
+#[tactic(auto, unfolding(crate::specs::Upper::public_asked))]
 pub fn ask_public(cpi: usize, public: usize, batch: usize) -> Asked
     ensures { result ≡ public_asked cpi public batch }
 {

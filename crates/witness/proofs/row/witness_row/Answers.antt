@@ -16,13 +16,6 @@ use Rattle.witness.proofs.row.witness_row.Goals as goal
 pub write_row-requires : goal.write_row-requires
 write_row-requires c = (public-yes 1 _ _ (sym c.ask_public-asked.ensures ∙ c.in-Yes.is)).1
 
-pub returns-in-No : goal.returns-in-No
-unfolding row_called
-returns-in-No c =
-    let a = c.args in
-    ap (λ (q : Asked). after q (made_row a.cycle a.rom a.public.now) a.row.now)
-    (sym c.in-No.is ∙ c.ask_public-asked.ensures)
-
 pub returns-in-Yes : goal.returns-in-Yes
 unfolding row_called
 returns-in-Yes c =
