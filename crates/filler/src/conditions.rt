@@ -51,6 +51,7 @@ struct StepFlags {
 }
 
 // Byte k of x: beyond the word there is nothing.
+#[tactic(auto, unfolding(crate::specs::Met::byte_of))]
 fn byte_of(x: u64, k: u64) -> u64
     ensures { result ≡ byte_of x k }
 {
@@ -137,6 +138,7 @@ fn one_width(f: StepFlags) -> bool
 }
 
 // The ten, in document 01's order.
+#[tactic(auto, unfolding(crate::specs::Met::conditions))]
 fn conditions(w: StepWords, f: StepFlags, output: Gf128) -> [bool; 10]
     requires { f.off < 8 }
     ensures { result ≡ conditions w f output }
@@ -232,6 +234,7 @@ fn unmet_in(batch: &[u64], cpi: usize, cycle: usize) -> StepAnswer
 }
 
 // Questions 1, 2, 11, 12 and 15, and then the conditions in their order.
+#[tactic(auto, unfolding(crate::specs::Met::step_answer))]
 pub fn first_unmet(cpi: usize, batch: &[u64], cycle: usize) -> StepAnswer
     ensures { result ≡ step_answer cpi batch.now cycle }
 {

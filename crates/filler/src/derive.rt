@@ -55,6 +55,7 @@ fn carry_word(a: u64, b: u64, s: u64) -> u64
 }
 
 // Which bits of x have none set at or below them: those that x - 1 has and x has not.
+#[tactic(auto, unfolding(crate::specs::Derive::run_word))]
 fn run_word(x: u64) -> u64
     ensures { result ≡ run_word x }
 {
@@ -76,6 +77,7 @@ fn hot_word(x: u64) -> u64
 }
 
 // Bits x and x + 4, modulo 8.
+#[tactic(auto, using(crate::specs::Laws::Loops::pair_is))]
 fn pair_word(x: u64) -> u64
     ensures { (result ≡ pair x) × (result < 256) }
 {
@@ -182,6 +184,7 @@ fn top_bits_of(g: GivenWords, carry: u64, zeros: u64) -> TopBits
 }
 
 // OPSYS to ZE8.
+#[tactic(auto, unfolding(crate::specs::Derive::branch_word))]
 fn branches_word(g: GivenWords, carry: u64, zeros: u64) -> u64
     ensures { result ≡ branches_of g carry zeros }
 {
@@ -196,6 +199,7 @@ fn branches_word(g: GivenWords, carry: u64, zeros: u64) -> u64
 }
 
 // TAKEN, of the word of columns 1088 on.
+#[tactic(auto, unfolding(crate::specs::Derive::taken_bit))]
 pub fn taken_bit(w: u64) -> u64
     ensures { result ≡ digit (taken_bit w) }
 {

@@ -15,6 +15,7 @@ use field::Gf128;
 use layout::columns::{CARRY_OFF, EQA, HALT, OPSYS, SHIFT_SRC, STORE_OLD, STORE_SRC, TAKEN, ZERO};
 use layout::{Asked, Refusal};
 
+#[tactic(auto, unfolding(step::specs::Derived::derived))]
 fn is_derived(column: usize) -> bool
     ensures { result ≡ derived column }
 {
@@ -68,6 +69,7 @@ fn ask_columns(cpi: usize, batch: &[u64]) -> Asked
 }
 
 // Questions 1, 2, 11 and 12.
+#[tactic(auto, unfolding(step::specs::Fill::fill_asked))]
 pub fn ask(cpi: usize, batch: &[u64]) -> Asked
     ensures { result ≡ fill_asked cpi batch.now }
 {
@@ -127,6 +129,7 @@ fn fill_cycles(cpi: usize, batch: &mut [u64])
 }
 
 // Question by question, and then the derived columns of every cycle, whatever stood there. A no leaves the batch as it came.
+#[tactic(auto, unfolding(step::specs::Fill::called))]
 pub fn fill(cpi: usize, batch: &mut [u64]) -> Asked
     ensures { ◌≡◌ {A = Called} (record { answer = result; batch = batch.new }) (called cpi batch.old) }
 {

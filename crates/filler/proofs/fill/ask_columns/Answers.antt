@@ -1,4 +1,4 @@
--- `filler::fill::ask_columns` meets its contract: each way out peels off the question before it.
+-- `filler::fill::ask_columns` meets its contract: the element of the one column lies within the batch.
 -- Assumes nothing.
 use Rattle.std.proofs.Common.{arith}
 use Rattle.layout.specs.Laws.Sizes.{allowed-range}
