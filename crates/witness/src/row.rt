@@ -1,9 +1,8 @@
 // The row of one cycle, from its record and its ROM row. All of its fields lie in 18 words of 64 columns.
-ghost use Rattle.std.specs.Prelude.{◌≡◌, ◌+◌, ◌<◌, ◌≤◌, [], ◌∷◌, length, slice_index};
+ghost use Rattle.std.specs.Prelude.{◌≡◌, ◌+◌, ◌≤◌, length};
 ghost use Rattle.base.specs.Lists.{from};
 ghost use Rattle.layout.specs.Questions.{Called};
 ghost use Rattle.layout.specs.Batch.{ROW-WORDS};
-ghost use Rattle.base.specs.Fields.{pack, flags};
 ghost use Rattle.witness.specs.Table.{subtracts, second_operand, alu_of, bus_rd};
 ghost use Rattle.witness.specs.RowWords.{flags_word, bus_word, given_words, row_words, bit_in, bits_from};
 ghost use Rattle.witness.specs.Row.{bit_word, row_word, row_called};

@@ -13,7 +13,7 @@ loop-cycle-init c = refl
 pub fill_cycle-requires : goal.fill_cycle-requires
 fill_cycle-requires c =
     let p = c.requires in
-    record { few = (allowed-range _ p.size).1; inside = omega arith; words = c.loop-cycle.auto.batch ∙ p.words }
+    record { few = (allowed-range _ p.size).1; inside = omega (arith, allowed-range _ p.size); words = c.loop-cycle.auto.batch ∙ p.words }
 
 pub loop-cycle-preserved : goal.loop-cycle-preserved
 unfolding fill_cycles
