@@ -1,6 +1,6 @@
 // Single bits of a word, which of them the columns are, and those that are flags.
 ghost use Rattle.std.specs.Prelude.{◌≡◌, ◌<◌};
-ghost use Rattle.base.specs.Bits.{◌⊻◌, bit_at};
+ghost use Rattle.base.specs.Bits.{bit_at};
 ghost use Rattle.filler.specs.Words.{gate_flags};
 
 use layout::columns::{
@@ -93,10 +93,4 @@ pub fn flags_of(w: u64) -> Flags
         half: nth(w, LD_HALF_BIT),
         whole: nth(w, LD_WORD_BIT),
     }
-}
-
-pub fn xor(a: bool, b: bool) -> bool
-    ensures { result ≡ a ⊻ b }
-{
-    a ^ b
 }

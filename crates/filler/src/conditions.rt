@@ -7,7 +7,6 @@ ghost use Rattle.filler.specs.Met.{byte_of, arithmetic, shift, write, system, lo
 
 use crate::bits::{
     Flags, IS_ARITH_BIT, IS_SHIFT_BIT, IS_STORE_BIT, OFF_BIT, RAM_ADDR_BIT, SUB_BIT, flags_of, nth,
-    xor,
 };
 use crate::derive::{GivenWords, word_of};
 use crate::fill::ask;
@@ -44,6 +43,7 @@ struct StepFlags {
 }
 
 // Byte k of x: beyond the word there is nothing.
+#[tactic(auto, unfolding(crate::specs::Met::byte_of))]
 fn byte_of(x: u64, k: u64) -> u64
     ensures { result ≡ byte_of x k }
 {
@@ -53,7 +53,7 @@ fn byte_of(x: u64, k: u64) -> u64
 fn arithmetic(w: StepWords, f: StepFlags) -> bool
     ensures { result ≡ arithmetic w f }
 {
-    let sum = std::num::wrapping_add_u64(std::num::wrapping_add_u64(w.t1, w.t2), word_of(f.sub));
+    let sum = w.t1.wrapping_add(w.t2).wrapping_add(word_of(f.sub));
     !f.is_arith | (w.alu == sum)
 }
 
@@ -112,7 +112,7 @@ fn second_zero(w: StepWords, f: StepFlags) -> bool
 fn address(w: StepWords, f: StepFlags) -> bool
     ensures { result ≡ address w f }
 {
-    !xor(f.gates.load, f.is_store) | (f.ram_addr == (w.alu >> 3) % 256)
+    !(f.gates.load ^ f.is_store) | (f.ram_addr == (w.alu >> 3) % 256)
 }
 
 // Of the strict conditions (document 02, request 6): no cycle both loads and stores.
@@ -130,6 +130,7 @@ fn one_width(f: StepFlags) -> bool
 }
 
 // The ten, in document 01's order.
+#[tactic(auto, unfolding(crate::specs::Met::conditions))]
 fn conditions(w: StepWords, f: StepFlags, output: Gf128) -> [bool; 10]
     requires { f.off < 8 }
     ensures { result ≡ conditions w f output }
@@ -151,12 +152,10 @@ fn conditions(w: StepWords, f: StepFlags, output: Gf128) -> [bool; 10]
 fn first_false(met: [bool; 10]) -> Option<usize>
     ensures { result ≡ first_false met }
 {
-    let mut k: usize = 1;
-    while k < 11 {
-        if !met[k - 1] {
-            return Some(k);
+    for (k, met) in met.iter().enumerate() {
+        if !*met {
+            return Some(k + 1);
         }
-        k = k + 1;
     }
     None
 }
@@ -227,6 +226,7 @@ fn unmet_in(batch: &[u64], cpi: usize, cycle: usize) -> Option<usize>
 }
 
 // Questions 1, 2, 11, 12 and 15, and then the conditions in their order.
+#[tactic(auto, unfolding(crate::specs::Met::step_answer))]
 pub fn first_unmet(cpi: usize, batch: &[u64], cycle: usize) -> Result<Option<usize>, Refusal>
     ensures { result ≡ step_answer cpi batch.now cycle }
 {

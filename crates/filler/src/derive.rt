@@ -1,5 +1,5 @@
 // The derived columns of a cycle, worked out by words. The row maker calls this, too.
-ghost use Rattle.std.specs.Prelude.{◌≡◌, ◌*◌, ◌<◌, ◌&&◌, [], ◌∷◌};
+ghost use Rattle.std.specs.Prelude.{◌≡◌, ◌*◌, ◌^◌, ◌<◌, ◌&&◌};
 ghost use Rattle.base.specs.Bits.{digit, ◌⊻◌, bit_at};
 ghost use Rattle.base.specs.Fields.{pack, flags};
 ghost use Rattle.filler.specs.Lanes.{hot, pair};
@@ -8,7 +8,7 @@ ghost use Rattle.filler.specs.Words.{top_bits_of, lanes_of, branches_of, derived
 
 use crate::bits::{
     BEQ, BGE, BGE_BIT, BGEU, BGEU_BIT, BLT, BLTU, BNE, BNE_BIT, CEQ_BIT, CLT_BIT, CLU_BIT,
-    FUNCT3_BIT, Flags, OFF_BIT, OPBR_BIT, SUB_BIT, TOP_BIT, flags_of, nth, xor,
+    FUNCT3_BIT, Flags, OFF_BIT, OPBR_BIT, SUB_BIT, TOP_BIT, flags_of, nth,
 };
 use layout::columns::OPSYS;
 
@@ -51,21 +51,21 @@ fn carry_word(a: u64, b: u64, s: u64) -> u64
     requires { s < 2 }
     ensures { result ≡ carry_word a b s }
 {
-    let sum = std::num::wrapping_add_u64(std::num::wrapping_add_u64(a, b), s);
-    a ^ b ^ sum
+    a ^ b ^ a.wrapping_add(b).wrapping_add(s)
 }
 
 // Which bits of x have none set at or below them: those that x - 1 has and x has not.
+#[tactic(auto, unfolding(crate::specs::Derive::run_word))]
 fn run_word(x: u64) -> u64
     ensures { result ≡ run_word x }
 {
-    std::num::wrapping_add_u64(x, 0xffff_ffff_ffff_ffff) & !x
+    x.wrapping_sub(1) & !x
 }
 
 pub fn word_of(b: bool) -> u64
     ensures { (result ≡ digit b) × (result < 2) }
 {
-    if b { 1 } else { 0 }
+    u64::from(b)
 }
 
 // Bit x alone.
@@ -77,6 +77,7 @@ fn hot_word(x: u64) -> u64
 }
 
 // Bits x and x + 4, modulo 8.
+#[tactic(auto, using(crate::specs::Laws::Loops::pair_is))]
 fn pair_word(x: u64) -> u64
     ensures { (result ≡ pair x) × (result < 256) }
 {
@@ -128,41 +129,34 @@ fn picked(e: u64, i: usize, j: usize, v: bool) -> bool
     requires { (i < 64) × (j < 64) }
     ensures { result ≡ ((bit_at e i ⊻ bit_at e j) && v) }
 {
-    xor(nth(e, i), nth(e, j)) & v
+    (nth(e, i) ^ nth(e, j)) & v
 }
 
-// Nine bits as a word, the first lowest.
-fn word_of_nine(
-    a: bool,
-    b: bool,
-    c: bool,
-    d: bool,
-    e: bool,
-    f: bool,
-    g: bool,
-    h: bool,
-    i: bool,
-) -> u64
-    ensures { (result ≡ pack (flags (a ∷ b ∷ c ∷ d ∷ e ∷ f ∷ g ∷ h ∷ i ∷ []))) × (result < 512) }
+// Bits as a word, the first lowest.
+pub fn word_of_bits<const N: usize>(bits: [bool; N]) -> u64
+    requires { N < 64 }
+    ensures { (result ≡ pack (flags bits.entry)) × (result < 2 ^ N) }
 {
-    let high = word_of(f) + 2 * (word_of(g) + 2 * (word_of(h) + 2 * word_of(i)));
-    word_of(a)
-        + 2 * (word_of(b) + 2 * (word_of(c) + 2 * (word_of(d) + 2 * (word_of(e) + 2 * high))))
+    let mut w = 0;
+    for i in (0..N).rev() {
+        w = word_of(bits[i]) + 2 * w;
+    }
+    w
 }
 
 // LTSA to ZE8; e has the bit of funct3 alone.
 fn compare_word(e: u64, t: TopBits, f: Flags) -> u64
     ensures { (result ≡ compare_word e t f) × (result < 512) }
 {
-    let signs = xor(t.rs1, t.rs2);
+    let signs = t.rs1 ^ t.rs2;
     let ltsa = signs & t.rs1;
-    let ltsb = xor(signs, true) & t.alu;
+    let ltsb = !signs & t.alu;
     let ltua = t.t1 & t.t2;
-    let ltub = t.carry & xor(t.t1, t.t2);
+    let ltub = t.carry & (t.t1 ^ t.t2);
     let ceq = picked(e, BEQ, BNE, t.zero);
-    let clt = picked(e, BLT, BGE, xor(ltsa, ltsb));
-    let clu = picked(e, BLTU, BGEU, xor(xor(ltua, ltub), true));
-    word_of_nine(
+    let clt = picked(e, BLT, BGE, ltsa ^ ltsb);
+    let clu = picked(e, BLTU, BGEU, !(ltua ^ ltub));
+    word_of_bits([
         ltsa,
         ltsb,
         ltua,
@@ -172,7 +166,7 @@ fn compare_word(e: u64, t: TopBits, f: Flags) -> u64
         clu,
         !f.whole & f.load,
         !f.whole & !f.half & f.load,
-    )
+    ])
 }
 
 fn top_bits_of(g: GivenWords, carry: u64, zeros: u64) -> TopBits
@@ -190,6 +184,7 @@ fn top_bits_of(g: GivenWords, carry: u64, zeros: u64) -> TopBits
 }
 
 // OPSYS to ZE8.
+#[tactic(auto, unfolding(crate::specs::Derive::branch_word))]
 fn branches_word(g: GivenWords, carry: u64, zeros: u64) -> u64
     ensures { result ≡ branches_of g carry zeros }
 {
@@ -204,12 +199,13 @@ fn branches_word(g: GivenWords, carry: u64, zeros: u64) -> u64
 }
 
 // TAKEN, of the word of columns 1088 on.
+#[tactic(auto, unfolding(crate::specs::Derive::taken_bit))]
 pub fn taken_bit(w: u64) -> u64
     ensures { result ≡ digit (taken_bit w) }
 {
-    let eq = xor(nth(w, CEQ_BIT), nth(w, BNE_BIT));
-    let signed = xor(xor(eq, nth(w, CLT_BIT)), nth(w, BGE_BIT));
-    let any = xor(xor(signed, nth(w, CLU_BIT)), nth(w, BGEU_BIT));
+    let eq = nth(w, CEQ_BIT) ^ nth(w, BNE_BIT);
+    let signed = eq ^ nth(w, CLT_BIT) ^ nth(w, BGE_BIT);
+    let any = signed ^ nth(w, CLU_BIT) ^ nth(w, BGEU_BIT);
     word_of(nth(w, OPBR_BIT) & any)
 }
 

@@ -6,15 +6,15 @@ ghost use Rattle.step.specs.Derived.{derived};
 ghost use Rattle.step.specs.Filling.{filled};
 ghost use Rattle.step.specs.Fill.{faulty, first_faulty, columns_asked, fill_asked, called, Passed};
 ghost use Rattle.layout.specs.Questions.{Called};
-ghost use Rattle.filler.specs.Blocks.{put_blocks};
-ghost use Rattle.filler.specs.Words.{low_blocks, flag_blocks, high_blocks, fill_cycle};
+ghost use Rattle.filler.specs.Words.{fill_cycle};
 
-use crate::derive::{DerivedWords, GivenWords, derive, taken_bit};
+use crate::derive::{derive, taken_bit};
 use crate::words::{element, put_word, read_given};
 use field::Gf128;
 use layout::columns::{CARRY_OFF, EQA, HALT, OPSYS, SHIFT_SRC, STORE_OLD, STORE_SRC, TAKEN, ZERO};
 use layout::{Question, Refusal};
 
+#[tactic(auto, unfolding(step::specs::Derived::derived))]
 fn is_derived(column: usize) -> bool
     ensures { result ≡ derived column }
 {
@@ -44,14 +44,12 @@ fn first_faulty(cpi: usize, batch: &[u64]) -> usize
 {
     let columns = 2048 * cpi;
     let k = layout::exponent(cpi);
-    let mut i: usize = 0;
-    while i < columns {
+    for i in 0..columns {
         if is_faulty(k, batch, i) {
             return i;
         }
-        i = i + 1;
     }
-    i
+    columns
 }
 
 // Questions 11 and 12.
@@ -71,6 +69,7 @@ fn ask_columns(cpi: usize, batch: &[u64]) -> Result<(), Refusal>
 }
 
 // Questions 1, 2, 11 and 12.
+#[tactic(auto, unfolding(step::specs::Fill::fill_asked))]
 pub fn ask(cpi: usize, batch: &[u64]) -> Result<(), Refusal>
     ensures { result ≡ fill_asked cpi batch.now }
 {
@@ -78,58 +77,35 @@ pub fn ask(cpi: usize, batch: &[u64]) -> Result<(), Refusal>
     ask_columns(cpi, batch)
 }
 
-// The carries and the copies.
-fn write_low(batch: &mut [u64], cpi: usize, cycle: usize, g: GivenWords, w: DerivedWords)
-    requires { Cycle cpi cycle batch.old }
-    ensures { batch.new ≡ put_blocks cpi cycle (low_blocks g w) batch.old }
-{
-    put_word(batch, cpi, cycle, CARRY_OFF, 64, w.carry);
-    put_word(batch, cpi, cycle, SHIFT_SRC, 64, g.rs1);
-    put_word(batch, cpi, cycle, STORE_OLD, 64, g.load);
-    put_word(batch, cpi, cycle, STORE_SRC, 64, g.rs2);
-}
-
-// HALT is where the first opcode chain ends.
-fn write_flags(batch: &mut [u64], cpi: usize, cycle: usize, w: DerivedWords)
-    requires { Cycle cpi cycle batch.old }
-    ensures { batch.new ≡ put_blocks cpi cycle (flag_blocks w) batch.old }
-{
-    put_word(batch, cpi, cycle, HALT, 1, w.branches >> 6);
-    put_word(batch, cpi, cycle, TAKEN, 1, taken_bit(w.branches));
-}
-
-fn write_high(batch: &mut [u64], cpi: usize, cycle: usize, w: DerivedWords)
-    requires { Cycle cpi cycle batch.old }
-    ensures { batch.new ≡ put_blocks cpi cycle (high_blocks w) batch.old }
-{
-    put_word(batch, cpi, cycle, EQA, 58, w.lanes);
-    put_word(batch, cpi, cycle, ZERO, 64, w.zeros);
-    put_word(batch, cpi, cycle, OPSYS, 39, w.branches);
-}
-
+// The given words are read before any column is written. HALT is where the first opcode chain ends.
 fn fill_cycle(batch: &mut [u64], cpi: usize, cycle: usize)
     requires { Cycle cpi cycle batch.old }
     ensures { batch.new ≡ fill_cycle cpi cycle batch.old }
 {
     let g = read_given(batch, cpi, cycle);
     let w = derive(g);
-    write_low(batch, cpi, cycle, g, w);
-    write_flags(batch, cpi, cycle, w);
-    write_high(batch, cpi, cycle, w);
+    put_word(batch, cpi, cycle, CARRY_OFF, 64, w.carry);
+    put_word(batch, cpi, cycle, SHIFT_SRC, 64, g.rs1);
+    put_word(batch, cpi, cycle, STORE_OLD, 64, g.load);
+    put_word(batch, cpi, cycle, STORE_SRC, 64, g.rs2);
+    put_word(batch, cpi, cycle, HALT, 1, w.branches >> 6);
+    put_word(batch, cpi, cycle, TAKEN, 1, taken_bit(w.branches));
+    put_word(batch, cpi, cycle, EQA, 58, w.lanes);
+    put_word(batch, cpi, cycle, ZERO, 64, w.zeros);
+    put_word(batch, cpi, cycle, OPSYS, 39, w.branches);
 }
 
 fn fill_cycles(cpi: usize, batch: &mut [u64])
     requires { Passed cpi batch.old }
     ensures { batch.new ≡ filled cpi batch.old }
 {
-    let mut cycle: usize = 0;
-    while cycle < cpi {
+    for cycle in 0..cpi {
         fill_cycle(batch, cpi, cycle);
-        cycle = cycle + 1;
     }
 }
 
 // Question by question, and then the derived columns of every cycle, whatever stood there. A no leaves the batch as it came.
+#[tactic(auto, unfolding(step::specs::Fill::called))]
 pub fn fill(cpi: usize, batch: &mut [u64]) -> Result<(), Refusal>
     ensures { ◌≡◌ {A = Called} (record { answer = result; batch = batch.new }) (called cpi batch.old) }
 {

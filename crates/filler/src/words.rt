@@ -1,4 +1,5 @@
-// A cycle's columns read as words, low bit first, and words put into columns.
+// A cycle's columns read as words, low bit first, and words put into columns. The batch, its size and the cycle are passed one by one:
+// a struct that held the batch for writing would have to promise of every write that the other two stay.
 ghost use Rattle.std.specs.Prelude.{◌≡◌, ◌+◌, ◌*◌, ◌<◌, ◌≤◌, length};
 ghost use Rattle.base.specs.Bits.{digit, bit_at};
 ghost use Rattle.verdict.specs.Row.{element_at, bits_of};
@@ -7,7 +8,7 @@ ghost use Rattle.step.specs.Filling.{put};
 ghost use Rattle.filler.specs.Blocks.{put_word};
 ghost use Rattle.filler.specs.Words.{word_at, given_words};
 
-use crate::derive::GivenWords;
+use crate::derive::{GivenWords, word_of};
 use field::Gf128;
 use layout::columns::{ALU, FETCH, FLAGS, LOAD_VAL, RS1, RS2, T1, T2};
 
@@ -32,7 +33,7 @@ fn bit_at(batch: &[u64], cpi: usize, cycle: usize, column: usize) -> u64
     ensures { result ≡ digit (bits_of cpi batch.now cycle column) }
 {
     let at = column_at(cpi, cycle, column);
-    if element(batch, at).low() == 1 { 1 } else { 0 }
+    word_of(element(batch, at).low() == 1)
 }
 
 // The word of 64 columns from one on.
@@ -41,9 +42,7 @@ pub fn read_word(batch: &[u64], cpi: usize, cycle: usize, column: usize) -> u64
     ensures { result ≡ word_at cpi batch.now cycle column }
 {
     let mut w: u64 = 0;
-    let mut i: usize = 64;
-    while 0 < i {
-        i = i - 1;
+    for i in (0..64).rev() {
         w = bit_at(batch, cpi, cycle, column + i) + 2 * w;
     }
     w
@@ -82,10 +81,8 @@ pub fn put_word(batch: &mut [u64], cpi: usize, cycle: usize, column: usize, colu
     ensures { batch.new ≡ put_word cpi cycle column w columns batch.old }
 {
     let mut rest = w;
-    let mut i: usize = 0;
-    while i < columns {
+    for i in 0..columns {
         put_bit(batch, cpi, cycle, column + i, rest);
-        rest = rest / 2;
-        i = i + 1;
+        rest /= 2;
     }
 }

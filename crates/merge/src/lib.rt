@@ -27,17 +27,16 @@ fn first_differing(first: &[u64], second: &[u64], start: usize, end: usize) -> u
     requires { (start ≤ end) × ((2 * end ≤ length first.now) × (2 * end ≤ length second.now)) }
     ensures { result ≡ first_from (differs first.now second.now) start (end - start) }
 {
-    let mut i = start;
-    while i < end {
+    for i in start..end {
         if differ_at(first, second, i) {
             return i;
         }
-        i = i + 1;
     }
-    i
+    end
 }
 
 // Questions 1 of either size, 19, and 2 of all three lengths.
+#[tactic(auto, unfolding(crate::specs::Calls::sizes_asked))]
 fn ask_sizes(
     first_cpi: usize,
     first: usize,
@@ -72,6 +71,7 @@ fn ask_sizes(
 }
 
 // And then 20, whose place is a column of a given batch.
+#[tactic(auto, unfolding(crate::specs::Calls::merge_asked))]
 fn ask(
     first_cpi: usize,
     first: &[u64],
@@ -110,10 +110,8 @@ fn write_columns(cpi: usize, first: &[u64], second: &[u64], batch: &mut [u64])
     ensures { Written (merged_word cpi first.now second.now) 0 (8192 * cpi)
         batch.old batch.new }
 {
-    let mut column: usize = 0;
-    while column < 2048 {
+    for column in 0..2048 {
         write_column(cpi, first, second, column, batch);
-        column = column + 1;
     }
 }
 
@@ -123,19 +121,12 @@ fn write_lower(cpi: usize, first: &[u64], second: &[u64], batch: &mut [u64])
     ensures { Written (merged_word cpi first.now second.now) 0 (8192 * cpi)
         batch.old batch.new }
 {
-    if cpi == 1 {
-        write_columns(1, first, second, batch);
-        return;
+    match cpi {
+        1 => write_columns(1, first, second, batch),
+        2 => write_columns(2, first, second, batch),
+        4 => write_columns(4, first, second, batch),
+        _ => write_columns(cpi, first, second, batch),
     }
-    if cpi == 2 {
-        write_columns(2, first, second, batch);
-        return;
-    }
-    if cpi == 4 {
-        write_columns(4, first, second, batch);
-        return;
-    }
-    write_columns(cpi, first, second, batch);
 }
 
 // The columns below one_col, the public ones that were given, and zeros behind them.
@@ -150,6 +141,7 @@ fn write_batch(cpi: usize, first: &[u64], second: &[u64], batch: &mut [u64])
 }
 
 // A no leaves the lent batch as it came; a yes leaves nothing of what stood there.
+#[tactic(auto, unfolding(crate::specs::Calls::merge_called))]
 pub fn merge(
     first_cpi: usize,
     first: &[u64],

@@ -9,6 +9,7 @@ use crate::upper::{ask_public, write_upper};
 use layout::{Question, Refusal};
 
 // Questions 1 to 4, of the numbers of words.
+#[tactic(auto, unfolding(crate::specs::Assembly::assembly_asked))]
 fn ask(cpi: usize, cycles: usize, public: usize, batch: usize) -> Result<(), Refusal>
     ensures { result ≡ assembly_asked cpi cycles public batch }
 {
@@ -26,12 +27,10 @@ fn write_column(cpi: usize, cycles: &[u64], column: usize, batch: &mut [u64])
         (2 * (column * cpi) + 2 * cpi) batch.old batch.new }
 {
     let start = 2 * (column * cpi);
-    let mut cycle: usize = 0;
-    while cycle < cpi {
+    for cycle in 0..cpi {
         let lent = 2 * (2048 * cycle + column);
         batch[start + 2 * cycle] = cycles[lent];
         batch[start + 2 * cycle + 1] = cycles[lent + 1];
-        cycle = cycle + 1;
     }
 }
 
@@ -39,10 +38,8 @@ fn write_columns(cpi: usize, cycles: &[u64], batch: &mut [u64])
     requires { Lent cpi cycles.now × (length batch.old ≡ batch_words cpi) }
     ensures { Written (cycle_word cpi cycles.now) 0 (4096 * cpi) batch.old batch.new }
 {
-    let mut column: usize = 0;
-    while column < 2048 {
+    for column in 0..2048 {
         write_column(cpi, cycles, column, batch);
-        column = column + 1;
     }
 }
 
@@ -56,6 +53,7 @@ fn assemble(cpi: usize, cycles: &[u64], public: &[u64], batch: &mut [u64])
 }
 
 // A no leaves the batch as it came; a yes leaves nothing of it.
+#[tactic(auto, unfolding(crate::specs::Assembly::assembly_called))]
 pub fn assemble_instance_z(
     cpi: usize,
     cycles: &[u64],

@@ -21,6 +21,7 @@ fn below_signed(x: u64, y: u64) -> bool
     y < x
 }
 
+#[tactic(auto, unfolding(step::specs::Branch::branch_holds))]
 fn branch_holds(funct3: u32, x: u64, y: u64) -> bool
     ensures { result ≡ branch_holds funct3 x y }
 {
@@ -43,6 +44,7 @@ fn is_reserved(funct3: u32) -> bool
 }
 
 // The opcode is compared whole, and of funct3 only the low three bits count.
+#[tactic(auto, unfolding(crate::specs::Reading::reading))]
 pub fn read_branch(opcode: u32, funct3: u32, rs1: u64, rs2: u64) -> BranchReading
     ensures { result ≡ reading opcode funct3 rs1 rs2 }
 {

@@ -1,9 +1,8 @@
 // The row of one cycle, from its record and its ROM row. All of its fields lie in 18 words of 64 columns.
-ghost use Rattle.std.specs.Prelude.{◌≡◌, ◌+◌, ◌<◌, ◌≤◌, [], ◌∷◌, length, slice_index};
+ghost use Rattle.std.specs.Prelude.{◌≡◌, ◌+◌, ◌≤◌, length};
 ghost use Rattle.base.specs.Lists.{from};
 ghost use Rattle.layout.specs.Questions.{Called};
 ghost use Rattle.layout.specs.Batch.{ROW-WORDS};
-ghost use Rattle.base.specs.Fields.{pack, flags};
 ghost use Rattle.witness.specs.Table.{subtracts, second_operand, alu_of, bus_rd};
 ghost use Rattle.witness.specs.RowWords.{flags_word, bus_word, given_words, row_words, bit_in, bits_from};
 ghost use Rattle.witness.specs.Row.{bit_word, row_word, row_called};
@@ -11,16 +10,8 @@ ghost use Rattle.base.specs.Written.{Written};
 
 use crate::records::{CycleRecord, RomRow};
 use crate::upper::{ask_public, write_upper};
-use filler::derive::{GivenWords, derive, word_of};
+use filler::derive::{GivenWords, derive, word_of, word_of_bits};
 use layout::Refusal;
-
-// Six bits as a word, the first lowest.
-fn word_of_six(a: bool, b: bool, c: bool, d: bool, e: bool, f: bool) -> u64
-    ensures { (result ≡ pack (flags (a ∷ b ∷ c ∷ d ∷ e ∷ f ∷ []))) × (result < 64) }
-{
-    let high = word_of(d) + 2 * (word_of(e) + 2 * word_of(f));
-    word_of(a) + 2 * (word_of(b) + 2 * (word_of(c) + 2 * high))
-}
 
 fn subtracts(cycle: CycleRecord) -> bool
     ensures { result ≡ subtracts cycle }
@@ -29,25 +20,26 @@ fn subtracts(cycle: CycleRecord) -> bool
 }
 
 // Columns 768 to 831.
+#[tactic(auto, unfolding(crate::specs::RowWords::flags_word))]
 fn flags_word(cycle: CycleRecord) -> u64
     ensures { result ≡ flags_word cycle }
 {
-    let low = word_of_six(
+    let low = word_of_bits([
         subtracts(cycle),
         cycle.we,
         cycle.is_load,
         cycle.is_store,
         cycle.is_arith,
         cycle.halted_latch,
-    );
-    let high = word_of_six(
+    ]);
+    let high = word_of_bits([
         cycle.is_shift,
         cycle.is_logic,
         cycle.ld_byte,
         cycle.ld_half,
         cycle.ld_word,
         cycle.branch_taken,
-    );
+    ]);
     let off = cycle.byte_offset as u64 % 8;
     let address = cycle.ram_addr as u64 % 256;
     let pc = cycle.micro_pc as u64 % 256;
@@ -64,6 +56,7 @@ fn bus_rd(rd: usize) -> u64
 }
 
 // Columns 832 to 895.
+#[tactic(auto, unfolding(crate::specs::RowWords::bus_word))]
 fn bus_word(rom: RomRow) -> u64
     ensures { result ≡ bus_word rom }
 {
@@ -81,7 +74,7 @@ fn second_operand(cycle: CycleRecord) -> u64
     ensures { result ≡ second_operand cycle }
 {
     if subtracts(cycle) {
-        return 0xffff_ffff_ffff_ffff - cycle.alu_b;
+        return !cycle.alu_b;
     }
     cycle.alu_b
 }
@@ -90,8 +83,8 @@ fn alu(cycle: CycleRecord) -> u64
     ensures { result ≡ alu_of cycle }
 {
     if cycle.is_arith {
-        let sum = std::num::wrapping_add_u64(cycle.alu_a, second_operand(cycle));
-        return std::num::wrapping_add_u64(sum, word_of(subtracts(cycle)));
+        let sum = cycle.alu_a.wrapping_add(second_operand(cycle));
+        return sum.wrapping_add(word_of(subtracts(cycle)));
     }
     cycle.alu_out
 }
@@ -145,29 +138,20 @@ fn write_word(w: u64, start: usize, row: &mut [u64])
     ensures { Written (bits_from start w) start (start + 128) row.old row.new }
 {
     let mut rest = w;
-    let mut i: usize = 0;
-    while i < 64 {
+    for i in 0..64 {
         row[start + 2 * i] = rest % 2;
         row[start + 2 * i + 1] = 0;
-        rest = rest / 2;
-        i = i + 1;
+        rest /= 2;
     }
-}
-
-fn word_or_zero(words: &[u64], j: usize) -> u64
-    ensures { result ≡ slice_index words.now j }
-{
-    if j < words.len() { words[j] } else { 0 }
 }
 
 fn write_words(words: &[u64], row: &mut [u64])
     requires { 4096 ≤ length row.old }
     ensures { Written (bit_word (bit_in words.now)) 0 4096 row.old row.new }
 {
-    let mut j: usize = 0;
-    while j < 32 {
-        write_word(word_or_zero(words, j), 128 * j, row);
-        j = j + 1;
+    for j in 0..32 {
+        let w = words.get(j).copied().unwrap_or(0);
+        write_word(w, 128 * j, row);
     }
 }
 
@@ -180,6 +164,7 @@ fn write_row(words: &[u64], public: &[u64], row: &mut [u64])
 }
 
 // Questions 2 and 3: a row is a batch of one cycle. A no leaves the row as it came; a yes leaves nothing of it.
+#[tactic(auto, unfolding(crate::specs::Row::row_called))]
 pub fn witness_row(
     cycle: CycleRecord,
     rom: RomRow,

@@ -6,6 +6,7 @@ ghost use Rattle.base.specs.Written.{Written};
 use layout::{Question, Refusal};
 
 // Question 3: a public value has two words, and there is room for so many words at most.
+#[tactic(auto, unfolding(crate::specs::Upper::public_fits))]
 fn public_fits(words: usize, most: usize) -> bool
     ensures { result ≡ public_fits words most }
 {
@@ -16,6 +17,7 @@ fn public_fits(words: usize, most: usize) -> bool
 }
 
 // Questions 1 to 3, of the numbers of words: the public values', the batch's.
+#[tactic(auto, unfolding(crate::specs::Upper::public_asked))]
 pub fn ask_public(cpi: usize, public: usize, batch: usize) -> Result<(), Refusal>
     ensures { result ≡ public_asked cpi public batch }
 {

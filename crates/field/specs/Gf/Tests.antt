@@ -26,17 +26,17 @@ pub same_false : (x y : Gf128) → same x y ≡ false → x ≡ y → ⊥
 same_false x y f e = false≢true (sym f ∙ ap (same x) (sym e) ∙ same_self x)
 
 -- what `==` and `!=` answer of two elements
-pub eq-same : {r : Bool} (x y : Gf128) → r ≡ (eqb x.lo y.lo && eqb x.hi y.hi) → r ≡ same x y
-eq-same x y e = e ∙ same-is x y
+pub eq_same : {r : Bool} (x y : Gf128) → r ≡ (eqb x.lo y.lo && eqb x.hi y.hi) → r ≡ same x y
+eq_same x y e = e ∙ same-is x y
 
-pub ne-not : {r : Bool} (x y : Gf128) → r ≡ not (eqb x.lo y.lo && eqb x.hi y.hi) → r ≡ not (same x y)
-ne-not x y e = e ∙ ap not (same-is x y)
+pub ne_not : {r : Bool} (x y : Gf128) → r ≡ not (eqb x.lo y.lo && eqb x.hi y.hi) → r ≡ not (same x y)
+ne_not x y e = e ∙ ap not (same-is x y)
 
-pub ne-differ : {r : Bool} (x y : Gf128) → r ≡ not (eqb x.lo y.lo && eqb x.hi y.hi) → r ≡ true → same x y ≡ false
-ne-differ x y e h = not-true _ (sym (ne-not x y e) ∙ h)
+pub ne_differ : {r : Bool} (x y : Gf128) → r ≡ not (eqb x.lo y.lo && eqb x.hi y.hi) → r ≡ true → same x y ≡ false
+ne_differ x y e h = not-true _ (sym (ne_not x y e) ∙ h)
 
-pub ne-same : {r : Bool} (x y : Gf128) → r ≡ not (eqb x.lo y.lo && eqb x.hi y.hi) → r ≡ false → same x y ≡ true
-ne-same x y e h = not-false _ (sym (ne-not x y e) ∙ h)
+pub ne_same : {r : Bool} (x y : Gf128) → r ≡ not (eqb x.lo y.lo && eqb x.hi y.hi) → r ≡ false → same x y ≡ true
+ne_same x y e h = not-false _ (sym (ne_not x y e) ∙ h)
 
 -- `is_bit` holds of 0 and 1, and of nothing else
 pub is_bit-bit : (b : Bool) → is_bit (of_bit b) ≡ true

@@ -3,8 +3,8 @@
 use mathlib.Core.Path.{ap, ap₂, ◌∙◌}
 use mathlib.Core.Bool.{not}
 use Rattle.field.specs.Gf.{same}
-use Rattle.field.specs.Gf.Tests.{ne-not}
+use Rattle.field.specs.Gf.Tests.{ne_not}
 use Rattle.merge.proofs.differ_at.Goals as goal
 
 pub returns : goal.returns
-returns c = ne-not _ _ c.ne.ensures ∙ ap not (ap₂ same c.of_words-one.ensures c.of_words-other.ensures)
+returns c = ne_not _ _ c.ne.ensures ∙ ap not (ap₂ same c.of_words-one.ensures c.of_words-other.ensures)

@@ -5,7 +5,7 @@ use Prim.Native.Nat.{ℕ, ◌/◌, ◌<◌}
 use native.Mathlib.Omega.{arith}
 use Rattle.field.specs.declared.Gf128.{Gf128}
 use Rattle.field.specs.Gf.{value, zero, same, added, product}
-use Rattle.field.specs.Gf.Tests.{ne-differ, ne-same}
+use Rattle.field.specs.Gf.Tests.{ne_differ, ne_same}
 use Rattle.field.specs.Gf.Tests.{same_true, same_false}
 use Rattle.field.specs.Gf.Element.{value-injective, value-zero}
 use Rattle.field.specs.Gf.Laws.{proper-zero, zero-add, add-zero, add_assoc, mul-zero}
@@ -23,7 +23,7 @@ loop-a-init c =
 pub loop-a-smaller : goal.loop-a-smaller
 loop-a-smaller c =
     let l = c.loop-a in
-    let differs = same_false l.b zero (ap (same l.b) (sym c.zero.ensures) ∙ ne-differ l.b _ c.ne.ensures c.loop-a-test.true) in
+    let differs = same_false l.b zero (ap (same l.b) (sym c.zero.ensures) ∙ ne_differ l.b _ c.ne.ensures c.loop-a-test.true) in
     half-less _ _ (ap value c.shr-b.ensures ∙ value-down 1 l.invariant.1)
     (λ e. differs (value-injective l.invariant.1 proper-zero (e ∙ sym value-zero)))
 
@@ -41,5 +41,5 @@ loop-a-preserved c =
 pub returns : goal.returns
 returns c =
     let l = c.loop-a in
-    let done = same_true l.b zero (ap (same l.b) (sym c.zero.ensures) ∙ ne-same l.b _ c.ne.ensures c.loop-a-test.false) in
+    let done = same_true l.b zero (ap (same l.b) (sym c.zero.ensures) ∙ ne_same l.b _ c.ne.ensures c.loop-a-test.false) in
     sym (ap (added l.sum) (ap (product l.a) done ∙ mul-zero l.a) ∙ add-zero l.sum) ∙ l.invariant.2

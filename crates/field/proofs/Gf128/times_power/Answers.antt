@@ -5,7 +5,7 @@ use native.Mathlib.Numerals.{add-one}
 use native.Mathlib.Omega.{arith}
 use Rattle.field.specs.declared.Gf128.{Gf128}
 use Rattle.field.specs.Gf.{value, Proper, zero, same, product, power}
-use Rattle.field.specs.Gf.Tests.{eq-same}
+use Rattle.field.specs.Gf.Tests.{eq_same}
 use Rattle.field.specs.Gf.Tests.{same_true}
 use Rattle.field.specs.Gf.Element.{value-zero}
 use Rattle.field.specs.Gf.Laws.{mul-zero, power-past, shift-is-product}
@@ -29,7 +29,7 @@ returns-then-eq c =
     let a = c.args in let x = a.self in
     let p : Proper x = omega arith in
     let above = c.shr in
-    let test = eq-same above.result _ c.eq.ensures ∙ ap (same above.result) c.zero-2.ensures in
+    let test = eq_same above.result _ c.eq.ensures ∙ ap (same above.result) c.zero-2.ensures in
     let empty = same_true above.result zero (sym test ∙ c.if-eq.true) in
     let none = sym (value-down (128 - a.k) p) ∙ ap value (sym above.ensures ∙ empty) ∙ value-zero in
     c.shl.ensures ∙ shift-is-product x a.k (omega arith) (stays 128 (128 - a.k) a.k (value x) (omega arith) none)

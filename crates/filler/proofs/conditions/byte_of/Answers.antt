@@ -1,13 +1,9 @@
--- `filler::conditions::byte_of` meets its contract: a shift and a remainder are the byte, and a word has nothing from bit 64 on.
+-- `filler::conditions::byte_of` meets its contract: a word has nothing from bit 64 on.
 -- Assumes nothing.
-use Rattle.std.proofs.Common.{ℕ, ◌*◌, ◌%◌, ◌^◌, sym, refl, ap, lt_of_lt_of_le, arith, pow_mono}
+use Rattle.std.proofs.Common.{ℕ, ◌*◌, ◌%◌, ◌^◌, sym, ap, lt_of_lt_of_le, arith, pow_mono}
 use native.Mathlib.Nat.{div-eq_of_lt}
 use Rattle.filler.specs.Met.{byte_of}
 use Rattle.filler.proofs.conditions.byte_of.Goals as goal
-
-pub returns-then-k-lt8 : goal.returns-then-k-lt8
-unfolding byte_of
-returns-then-k-lt8 c = refl
 
 pub returns-else-k-lt8 : goal.returns-else-k-lt8
 unfolding byte_of

@@ -2,8 +2,8 @@
 -- Assumes nothing.
 use Rattle.std.proofs.Common.{ap, ◌∙◌}
 use Rattle.field.specs.Gf.{same}
-use Rattle.field.specs.Gf.Tests.{eq-same}
+use Rattle.field.specs.Gf.Tests.{eq_same}
 use Rattle.filler.proofs.conditions.system.Goals as goal
 
 pub returns : goal.returns
-returns c = let e = eq-same _ _ c.eq.ensures ∙ ap (same c.args.output) c.of_words.ensures in cc e
+returns c = let e = eq_same _ _ c.eq.ensures ∙ ap (same c.args.output) c.of_words.ensures in cc e

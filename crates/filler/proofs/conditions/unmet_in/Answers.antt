@@ -1,6 +1,6 @@
 -- `filler::conditions::unmet_in` meets its contract: what is read are the words, the flags and the public element of this cycle.
 -- Assumes nothing.
-use Rattle.std.proofs.Common.{ap, ◌∙◌, ap₂, arith}
+use Rattle.std.proofs.Common.{ap, ◌∙◌, ap₂}
 use Rattle.layout.specs.Batch.{column_at}
 use Rattle.verdict.specs.Row.{cycle_of, bits_of}
 use Rattle.filler.specs.declared.conditions.StepWords.{StepWords}
@@ -8,9 +8,6 @@ use Rattle.filler.specs.declared.conditions.StepFlags.{StepFlags}
 use Rattle.filler.specs.Met.{words_of, flags_of, conditions, first_false, first_unmet}
 use Rattle.filler.specs.Laws.MetRead.{words_are, flags-are}
 use Rattle.filler.proofs.conditions.unmet_in.Goals as goal
-
-pub conditions-requires : goal.conditions-requires
-conditions-requires c = omega (arith, ap (λ (f : StepFlags). f.off) c.flags_in-f.ensures)
 
 pub returns : goal.returns
 unfolding first_unmet cycle_of column_at

@@ -1,11 +1,8 @@
 -- `filler::fill::fill_cycles` meets its contract: the cycles passed are filled; all of them make the batch that the rows determine.
 -- Assumes nothing.
-use Rattle.std.proofs.Common.{◌≡◌, ◌-◌, ◌<◌, ◌≤◌, length}
+use Rattle.std.proofs.Common.{◌≡◌}
 use Rattle.filler.specs.Words.{fill_cycles}
 use Rattle.filler.proofs.fill.fill_cycles.Given as goal
 
 abbrev pub invariant-loop-cycle : goal.invariant-loop-cycle
-invariant-loop-cycle l = (0 < l.cpi) × (l.cycle ≤ l.cpi) × (length l.batch ≡ length l.initial.batch) × (l.batch ≡ fill_cycles l.cpi l.cycle l.initial.batch)
-
-abbrev pub decreases-loop-cycle : goal.decreases-loop-cycle
-decreases-loop-cycle l = l.cpi - l.cycle
+invariant-loop-cycle l = l.batch ≡ fill_cycles l.cpi l.cycle l.initial.batch

@@ -1,6 +1,6 @@
 -- `filler::words::put_word` meets its contract: the columns passed hold the bits of w, and `rest` is w without them.
 -- Assumes nothing.
-use Rattle.std.proofs.Common.{ℕ, sym, refl, ap, ◌∙◌, div-one, arith, rules}
+use Rattle.std.proofs.Common.{sym, refl, ◌∙◌, div-one}
 use Rattle.filler.specs.Blocks.{put_word}
 use Rattle.base.specs.Laws.Words.{half-turn}
 use Rattle.filler.specs.Laws.Loops.{put-turn}
@@ -8,22 +8,11 @@ use Rattle.filler.proofs.words.put_word.Goals as goal
 
 pub loop-i-init : goal.loop-i-init
 unfolding put_word
-loop-i-init c = (search rules, sym (div-one _), refl, refl)
+loop-i-init c = (sym (div-one _), refl)
 
 pub loop-i-preserved : goal.loop-i-preserved
 loop-i-preserved c =
-    let a = c.args in let l = c.loop-i in
-    let p = c.put_bit in (
-      omega arith,
-      half-turn a.w l.i l.invariant.1,
-      p.auto.batch ∙ l.invariant.2,
-      p.ensures ∙ put-turn a.w l.i l.invariant.1 a.cpi a.cycle a.column a.batch.now l.invariant.3,
+    let a = c.args in let l = c.loop-i in (
+      half-turn a.w l.i l.invariant.0,
+      c.put_bit.ensures ∙ put-turn a.w l.i l.invariant.0 a.cpi a.cycle a.column a.batch.now l.invariant.1,
     )
-
-pub shape_of-batch : goal.shape_of-batch
-shape_of-batch c = c.loop-i.invariant.2
-
-pub returns : goal.returns
-returns c =
-    let a = c.args in let l = c.loop-i in
-    l.invariant.3 ∙ ap (λ (i : ℕ). put_word a.cpi a.cycle a.column a.w i a.batch.now) (omega arith)

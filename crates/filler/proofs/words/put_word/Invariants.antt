@@ -1,11 +1,8 @@
 -- `filler::words::put_word` meets its contract: the columns passed hold the bits of w, and `rest` is w without them.
 -- Assumes nothing.
-use Rattle.std.proofs.Common.{◌≡◌, ◌-◌, ◌/◌, ◌^◌, ◌≤◌, length}
+use Rattle.std.proofs.Common.{◌≡◌, ◌/◌, ◌^◌}
 use Rattle.filler.specs.Blocks.{put_word}
 use Rattle.filler.proofs.words.put_word.Given as goal
 
 abbrev pub invariant-loop-i : goal.invariant-loop-i
-invariant-loop-i l = (l.i ≤ l.columns) × (l.rest ≡ l.w / 2 ^ l.i) × (length l.batch ≡ length l.initial.batch) × (l.batch ≡ put_word l.cpi l.cycle l.column l.w l.i l.initial.batch)
-
-abbrev pub decreases-loop-i : goal.decreases-loop-i
-decreases-loop-i l = l.columns - l.i
+invariant-loop-i l = (l.rest ≡ l.w / 2 ^ l.i) × (l.batch ≡ put_word l.cpi l.cycle l.column l.w l.i l.initial.batch)

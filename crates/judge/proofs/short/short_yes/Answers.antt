@@ -3,7 +3,7 @@
 use mathlib.Core.Path.{sym, ap₂, ◌∙◌}
 use native.Mathlib.Omega.{arith}
 use Rattle.field.specs.Gf.{same}
-use Rattle.field.specs.Gf.Tests.{ne-differ, ne-same}
+use Rattle.field.specs.Gf.Tests.{ne_differ, ne_same}
 use Rattle.layout.specs.Laws.Questions.{batch-yes}
 use Rattle.layout.specs.Laws.Sizes.{allowed-range}
 use Rattle.judge.specs.Laws.Short.{not-asked, no_one, left-bits, short-in}
@@ -20,7 +20,7 @@ element-requires c =
 pub returns-then-ne : goal.returns-then-ne
 returns-then-ne c =
     no_one _ _ _ (sym c.ask_batch.ensures ∙ c.in-Ok.is)
-    (sym (ap₂ same c.element.ensures c.one.ensures) ∙ ne-differ _ _ c.ne.ensures c.if-ne.true)
+    (sym (ap₂ same c.element.ensures c.one.ensures) ∙ ne_differ _ _ c.ne.ensures c.if-ne.true)
 
 pub short_bits-requires : goal.short_bits-requires
 short_bits-requires c = short-in _ _ (sym c.ask_batch.ensures ∙ c.in-Ok.is)
@@ -32,4 +32,4 @@ pub returns-else-ne : goal.returns-else-ne
 returns-else-ne c =
     c.short_bits.ensures
     ∙ left-bits _ _ _ (sym c.ask_batch.ensures ∙ c.in-Ok.is)
-    (sym (ap₂ same c.element.ensures c.one.ensures) ∙ ne-same _ _ c.ne.ensures c.if-ne.false)
+    (sym (ap₂ same c.element.ensures c.one.ensures) ∙ ne_same _ _ c.ne.ensures c.if-ne.false)

@@ -2,7 +2,7 @@
 -- Assumes nothing.
 use mathlib.Core.Path.{ap, ◌∙◌}
 use Rattle.field.specs.Gf.{same}
-use Rattle.field.specs.Gf.Tests.{eq-same}
+use Rattle.field.specs.Gf.Tests.{eq_same}
 use Rattle.verdict.specs.Row.{balanced}
 use Rattle.verdict.proofs.rows.test_row.Goals as goal
 
@@ -11,6 +11,6 @@ unfolding balanced
 returns c =
     let s = c.row_sums-row in
     record {
-      holds-is = eq-same _ _ c.eq.ensures ∙ ap (λ x. same x s.result.sums.c) c.mul.ensures ∙ ap balanced s.ensures.sums-are;
+      holds-is = eq_same _ _ c.eq.ensures ∙ ap (λ x. same x s.result.sums.c) c.mul.ensures ∙ ap balanced s.ensures.sums-are;
       ends = s.ensures.ends;
     }

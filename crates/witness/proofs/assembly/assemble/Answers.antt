@@ -7,9 +7,6 @@ use Rattle.witness.specs.Laws.Assembled.{half}
 use Rattle.witness.specs.Laws.Halves.{halves-written}
 use Rattle.witness.proofs.assembly.assemble.Goals as goal
 
-pub write_upper-requires : goal.write_upper-requires
-write_upper-requires c = omega (arith, c.write_columns.ensures.lengths)
-
 pub returns : goal.returns
 unfolding assembled
 returns c =

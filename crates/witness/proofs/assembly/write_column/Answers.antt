@@ -1,6 +1,6 @@
 -- `witness::assembly::write_column` meets its contract: the cycles passed stand side by side.
 -- Assumes nothing.
-use Rattle.std.proofs.Common.{◌≡◌, ℕ, ◌+◌, ◌-◌, ◌*◌, ◌<◌, ◌≤◌, length, get_or, sym, refl, ap, ◌∙◌, add-zero, arith, length-set}
+use Rattle.std.proofs.Common.{◌≡◌, ℕ, ◌+◌, ◌-◌, ◌*◌, ◌<◌, ◌≤◌, length, get_or, sym, ap, ◌∙◌, add-zero, arith}
 use lib.Arith.{digits_lt}
 use Rattle.layout.specs.Laws.Sizes.{allowed-range}
 use Rattle.witness.specs.Assembly.{cycle_word}
@@ -12,58 +12,10 @@ use Rattle.witness.proofs.assembly.write_column.Goals as goal
 column_fits : (cpi column : ℕ) → 0 < cpi → column < 2048 → column * cpi + cpi ≤ 2048 * cpi
 column_fits cpi column some h = let last : column * cpi + (cpi - 1) < 2048 * cpi = digits_lt h (omega arith) in omega arith
 
-pub overflow_mul-start : goal.overflow_mul-start
-overflow_mul-start c =
-    let r = allowed-range _ c.requires.0.size in omega (arith, column_fits _ _ r.0 c.requires.1.1)
-
-pub overflow_mul-start-2 : goal.overflow_mul-start-2
-overflow_mul-start-2 c =
-    let r = allowed-range _ c.requires.0.size in omega (arith, column_fits _ _ r.0 c.requires.1.1)
-
 pub loop-cycle-init : goal.loop-cycle-init
 loop-cycle-init c =
     let r = allowed-range _ c.requires.0.size in
-    (refl, omega arith, column_fits _ _ r.0 c.requires.1.1, r.1, written-to _ _ _ _ _ _ (sym (add-zero _)) (written_none _ _ _))
-
-pub overflow_mul-lent : goal.overflow_mul-lent
-overflow_mul-lent c = omega (arith, c.loop-cycle.invariant)
-
-pub overflow_add-lent : goal.overflow_add-lent
-overflow_add-lent c = omega (arith, c.loop-cycle.invariant)
-
-pub overflow_mul-lent-in-loop-cycle : goal.overflow_mul-lent-in-loop-cycle
-overflow_mul-lent-in-loop-cycle c = omega (arith, c.loop-cycle.invariant)
-
-pub bounds-cycles-lent : goal.bounds-cycles-lent
-bounds-cycles-lent c = omega (arith, c.requires.0.words)
-
-pub overflow_mul-batch : goal.overflow_mul-batch
-overflow_mul-batch c = omega (arith, c.loop-cycle.invariant)
-
-pub overflow_add-batch : goal.overflow_add-batch
-overflow_add-batch c = omega (arith, c.loop-cycle.invariant)
-
-pub bounds-batch-start : goal.bounds-batch-start
-bounds-batch-start c = omega (arith, c.loop-cycle.invariant, c.loop-cycle.invariant.4.lengths, c.requires.1.0)
-
-pub overflow_add-batch-in-loop-cycle : goal.overflow_add-batch-in-loop-cycle
-overflow_add-batch-in-loop-cycle c = omega (arith, c.loop-cycle.invariant)
-
-pub bounds-cycles-lent-in-loop-cycle : goal.bounds-cycles-lent-in-loop-cycle
-bounds-cycles-lent-in-loop-cycle c = omega (arith, c.requires.0.words)
-
-pub overflow_mul-batch-in-loop-cycle : goal.overflow_mul-batch-in-loop-cycle
-overflow_mul-batch-in-loop-cycle c = omega (arith, c.loop-cycle.invariant)
-
-pub overflow_add-batch-in-loop-cycle-2 : goal.overflow_add-batch-in-loop-cycle-2
-overflow_add-batch-in-loop-cycle-2 c = omega (arith, c.loop-cycle.invariant)
-
-pub overflow_add-batch-in-loop-cycle-3 : goal.overflow_add-batch-in-loop-cycle-3
-overflow_add-batch-in-loop-cycle-3 c = omega (arith, c.loop-cycle.invariant)
-
-pub bounds-batch-start-in-loop-cycle : goal.bounds-batch-start-in-loop-cycle
-bounds-batch-start-in-loop-cycle c =
-    simp length-set (omega (arith, c.loop-cycle.invariant, c.loop-cycle.invariant.4.lengths, c.requires.1.0))
+    (column_fits _ _ r.0 c.requires.1.1, r.1, written-to _ _ _ _ _ _ (sym (add-zero _)) (written_none _ _ _))
 
 pub loop-cycle-preserved : goal.loop-cycle-preserved
 loop-cycle-preserved c =
@@ -77,15 +29,6 @@ loop-cycle-preserved c =
     let high : get_or cycles (2 * (2048 * d + a.column) + 1) 0 ≡ cycle_word a.cpi cycles (at + 2 * d + 1) =
     sym (word-lent a.cpi cycles a.column d 1 (at + 2 * d + 1) (omega arith) (omega arith) (omega arith)) in
     let room : at + 2 * d + 1 < length a.batch.now = omega (arith, v, c.requires.1.0) in
-    let first = written-more _ _ _ _ _ _ low (omega arith) (omega arith) v.4 in
+    let first = written-more _ _ _ _ _ _ low (omega arith) (omega arith) v.2 in
     let both = written-more _ _ _ _ _ _ high (omega arith) room first in
-    (refl, omega arith, v.2, v.3, written-to _ _ _ _ _ _ next both)
-
-pub shape_of-batch : goal.shape_of-batch
-shape_of-batch c = c.loop-cycle.invariant.4.lengths
-
-pub returns : goal.returns
-returns c =
-    let l = c.loop-cycle in let a = c.args in
-    let end : 2 * (a.column * a.cpi) + 2 * l.cycle ≡ 2 * (a.column * a.cpi) + 2 * a.cpi = omega arith in
-    written-to _ _ _ _ _ _ end l.invariant.4
+    (v.0, v.1, written-to _ _ _ _ _ _ next both)

@@ -1,7 +1,5 @@
 -- `witness::row::witness_row` meets its contract: the questions pick the case; where they are passed, the words have the bits of the table.
 -- Assumes nothing.
-use Rattle.layout.specs.Laws.Questions.{asking}
-use borrow.Author.Rules.{rules}
 use Rattle.std.proofs.Common.{ℕ, List, sym, ap, ◌∙◌, arith}
 use Rattle.base.specs.Lists.{from}
 use Rattle.layout.specs.Questions.{after, Asked}
@@ -16,10 +14,6 @@ use Rattle.std.specs.Prelude.{Ok}
 
 pub write_row-requires : goal.write_row-requires
 write_row-requires c = (public-yes 1 _ _ (sym c.ask_public.ensures ∙ c.in_ok-ask_public.was)).1
-
-pub returns-in_err-ask_public : goal.returns-in_err-ask_public
-unfolding row_called
-returns-in_err-ask_public c = search (rules, asking, c.in_err-ask_public.was)
 
 pub returns : goal.returns
 unfolding row_called

@@ -1,14 +1,11 @@
 -- `witness::row::write_row` meets its contract: both halves, one behind the other.
 -- Assumes nothing.
-use Rattle.std.proofs.Common.{refl, arith}
+use Rattle.std.proofs.Common.{refl}
 use Rattle.layout.specs.Batch.{ROW-WORDS}
 use Rattle.witness.specs.Row.{bit_word}
 use Rattle.witness.specs.RowWords.{bit_in}
 use Rattle.witness.specs.Laws.Halves.{halves-written}
 use Rattle.witness.proofs.row.write_row.Goals as goal
-
-pub write_upper-requires : goal.write_upper-requires
-write_upper-requires c = omega (arith, c.write_words.ensures.lengths)
 
 pub returns : goal.returns
 returns c =

@@ -1,16 +1,7 @@
 -- `witness::upper::write_upper` meets its contract: its three pieces one behind the other.
 -- Assumes nothing.
-use Rattle.std.proofs.Common.{arith, length-set}
 use Rattle.witness.specs.Laws.Halves.{upper-written}
 use Rattle.witness.proofs.upper.write_upper.Goals as goal
-
-pub bounds-out-start-2 : goal.bounds-out-start-2
-bounds-out-start-2 c = simp length-set (omega arith)
-
-pub shape_of-out : goal.shape_of-out
-shape_of-out c =
-    (upper-written c.args.start c.args.public.now c.args.out.now _ _ c.requires c.copy_at.ensures
-    c.clear_from.ensures).lengths
 
 pub returns : goal.returns
 returns c =
