@@ -41,11 +41,9 @@ fn seen_at(batch: &[u64], i: usize) -> u64
 {
     let mut low: u64 = 0;
     let mut high: u64 = 0;
-    let mut j: usize = 0;
-    while j < 64 {
-        low = low | batch[i + 2 * j];
-        high = high | batch[i + 2 * j + 1];
-        j = j + 1;
+    for j in 0..64 {
+        low |= batch[i + 2 * j];
+        high |= batch[i + 2 * j + 1];
     }
     (low >> 1) | high
 }
@@ -56,11 +54,9 @@ pub fn pack_words(batch: &[u64], first: usize, last: usize, out: &mut [u64]) -> 
     ensures { InRow batch.now first last out.old out.new result }
 {
     let mut bad: u64 = 0;
-    let mut k = first;
-    while k < last {
-        bad = bad | seen_at(batch, 128 * k);
+    for k in first..last {
+        bad |= seen_at(batch, 128 * k);
         out[k] = word_at(batch, 128 * k);
-        k = k + 1;
     }
     bad
 }

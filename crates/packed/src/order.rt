@@ -18,10 +18,8 @@ fn get_words(words: &[u64], k: usize, acc: &mut [u64])
     requires { (k < 32) × (32 * length acc.old ≤ length words.now) }
     ensures { Gathered words.now k acc.new }
 {
-    let mut d: usize = 0;
-    while d < acc.len() {
-        acc[d] = words[32 * d + k];
-        d = d + 1;
+    for (d, word) in acc.iter_mut().enumerate() {
+        *word = words[32 * d + k];
     }
 }
 
@@ -31,13 +29,11 @@ fn blocks_into_cycles(cpi: usize, words: &[u64], a: &mut [u64], b: &mut [u64], o
     ensures { out.new ≡ by_cycle cpi words.now }
 {
     let h = cpi / 2;
-    let mut q: usize = 0;
-    while q < 32 {
+    for q in 0..32 {
         let start = q * cpi;
         let end = start + cpi;
         turn(&words[start..end], a, b, h);
         put_words(a, q, out);
-        q = q + 1;
     }
 }
 
@@ -46,13 +42,11 @@ fn blocks_into_batch(cpi: usize, words: &[u64], a: &mut [u64], b: &mut [u64], ou
     ensures { out.new ≡ by_batch cpi words.now }
 {
     let h = cpi / 2;
-    let mut q: usize = 0;
-    while q < 32 {
+    for q in 0..32 {
         let start = q * cpi;
         let end = start + cpi;
         get_words(words, q, a);
         unturn(a, b, &mut out[start..end], h);
-        q = q + 1;
     }
 }
 

@@ -6,6 +6,3 @@ use Rattle.packed.proofs.many.put_words.Given as goal
 
 abbrev pub invariant-loop-d : goal.invariant-loop-d
 invariant-loop-d l = (l.d ≤ length l.acc) × Scattered l.acc l.k l.d l.initial.out l.out
-
-abbrev pub decreases-loop-d : goal.decreases-loop-d
-decreases-loop-d l = length l.acc - l.d

@@ -6,6 +6,3 @@ use Rattle.packed.proofs.one.pack_words.Given as goal
 
 abbrev pub invariant-loop-k : goal.invariant-loop-k
 invariant-loop-k l = (l.first ≤ l.k) × ((l.k ≤ l.last) × InRow l.batch l.first l.k l.initial.out l.out l.bad)
-
-abbrev pub decreases-loop-k : goal.decreases-loop-k
-decreases-loop-k l = l.last - l.k

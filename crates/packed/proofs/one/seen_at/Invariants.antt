@@ -6,6 +6,3 @@ use Rattle.packed.proofs.one.seen_at.Given as goal
 
 abbrev pub invariant-loop-j : goal.invariant-loop-j
 invariant-loop-j l = (l.j ≤ 64) × SeenFrom l.batch l.i l.j l.low l.high
-
-abbrev pub decreases-loop-j : goal.decreases-loop-j
-decreases-loop-j l = 64 - l.j

@@ -6,6 +6,3 @@ use Rattle.packed.proofs.order.blocks_into_batch.Given as goal
 
 abbrev pub invariant-loop-q : goal.invariant-loop-q
 invariant-loop-q l = Going l.cpi l.out l.words l.a l.b l.out l.q
-
-abbrev pub decreases-loop-q : goal.decreases-loop-q
-decreases-loop-q l = 32 - l.q

@@ -6,6 +6,3 @@ use Rattle.packed.proofs.order.blocks_into_cycles.Given as goal
 
 abbrev pub invariant-loop-q : goal.invariant-loop-q
 invariant-loop-q l = Going l.cpi l.words l.out l.a l.b l.out l.q
-
-abbrev pub decreases-loop-q : goal.decreases-loop-q
-decreases-loop-q l = 32 - l.q

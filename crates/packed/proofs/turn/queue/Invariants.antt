@@ -7,6 +7,3 @@ use Rattle.packed.proofs.turn.queue.Given as goal
 
 abbrev pub invariant-loop-k : goal.invariant-loop-k
 invariant-loop-k l = Pairs l.j (halves l.h) neighbours l.h l.a l.b l.k
-
-abbrev pub decreases-loop-k : goal.decreases-loop-k
-decreases-loop-k l = l.h - l.k

@@ -6,6 +6,3 @@ use Rattle.packed.proofs.unpack.lay_word.Given as goal
 
 abbrev pub invariant-loop-j : goal.invariant-loop-j
 invariant-loop-j l = (l.j ≤ 64) × ((l.rest ≡ l.w / 2 ^ l.j) × Laid l.w l.at l.j l.initial.batch l.batch)
-
-abbrev pub decreases-loop-j : goal.decreases-loop-j
-decreases-loop-j l = 64 - l.j

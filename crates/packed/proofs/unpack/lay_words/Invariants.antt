@@ -6,6 +6,3 @@ use Rattle.packed.proofs.unpack.lay_words.Given as goal
 
 abbrev pub invariant-loop-k : goal.invariant-loop-k
 invariant-loop-k l = (l.k ≤ length l.words) × Unpacked l.words l.k l.initial.batch l.batch
-
-abbrev pub decreases-loop-k : goal.decreases-loop-k
-decreases-loop-k l = length l.words - l.k
