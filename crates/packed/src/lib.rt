@@ -3,12 +3,13 @@
 #![tactic(auto)]
 
 mod many;
-mod one;
+pub mod one;
 mod order;
 pub mod storage;
 pub mod sums;
 mod turn;
 mod unpack;
+pub mod words;
 
 ghost use Rattle.std.specs.Prelude.{◌≡◌, ◌≤◌, length, ◌==◌};
 ghost use Rattle.packed.specs.Packed.{answer_of, pack_asked, NamedCalled, named_called};

@@ -6,10 +6,10 @@ use Rattle.packed.specs.Laws.One.{seen-turn, seen_all}
 use Rattle.packed.proofs.one.seen_at.Goals as goal
 
 pub loop-j-init : goal.loop-j-init
-loop-j-init c = (search rules, seen_none _ _)
+loop-j-init g c = (search rules, seen_none _ _)
 
 pub loop-j-preserved : goal.loop-j-preserved
-loop-j-preserved c = (omega arith, search seen-turn)
+loop-j-preserved g c = (omega arith, search seen-turn)
 
 pub returns : goal.returns
-returns c = search seen_all
+returns g c = search seen_all

@@ -5,4 +5,4 @@ use Rattle.packed.specs.Laws.One.{SeenFrom}
 use Rattle.packed.proofs.one.seen_at.Given as goal
 
 abbrev pub invariant-loop-j : goal.invariant-loop-j
-invariant-loop-j l = (l.j ≤ 64) × SeenFrom l.batch l.i l.j l.low l.high
+invariant-loop-j g l = (l.j ≤ 64) × SeenFrom (g.W.Words.words l.batch) l.i l.j l.low l.high
