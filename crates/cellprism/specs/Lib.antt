@@ -12,5 +12,4 @@ pub mod Answer
 pub mod BenchSheet
 pub mod Sheet
 pub mod Exact
-pub mod Packing
 pub mod Laws

@@ -32,9 +32,7 @@ pub fn read_words(bytes: &[u8], words: &mut [u64])
     requires { length bytes.now ≡ 8 * length words.old }
     ensures { words.new ≡ words_of (length words.old) bytes.now }
 {
-    let mut i: usize = 0;
-    while i < words.len() {
-        words[i] = word_at(bytes, 8 * i);
-        i = i + 1;
+    for (i, word) in words.iter_mut().enumerate() {
+        *word = word_at(bytes, 8 * i);
     }
 }

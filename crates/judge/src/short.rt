@@ -1,7 +1,6 @@
 // The short way: an accepted batch of bits is seen to be one with no listing read. A no says nothing of the batch but that the listing has
 // to be walked.
-ghost use Rattle.std.specs.Prelude.{true, ◌↔◌, ◌≡◌, ◌+◌, ◌*◌, ◌<◌, ◌≤◌, length, replicate};
-ghost use Rattle.verdict.specs.Row.{element_at};
+ghost use Rattle.std.specs.Prelude.{true, ◌↔◌, ◌≡◌, ◌*◌, ◌≤◌, replicate};
 ghost use Rattle.packed.specs.Packed.{NamedCalled, named_called};
 ghost use Rattle.packed.specs.Named.{NamedIn};
 ghost use Rattle.judge.specs.Short.{short_bits, short_yes, ShortIn, ShortRow};
@@ -10,14 +9,8 @@ use crate::cycle::judge_cycles;
 use field::Gf128;
 use layout::Asked;
 use packed::Packing;
+use packed::words::element;
 use strict::Known;
-
-fn element(batch: &[u64], at: usize) -> Gf128
-    requires { 2 * at + 1 < length batch.now }
-    ensures { result ≡ element_at batch.now at }
-{
-    Gf128::of_words(batch[2 * at], batch[2 * at + 1])
-}
 
 // Of a batch of one cycle the packing stands apart: the two run faster as one piece of code.
 fn pack(cpi: usize, batch: &[u64], out: &mut [u64]) -> Packing

@@ -1,6 +1,5 @@
 -- `cellprism::answer_word` meets its contract: each arm is the word of its case.
 -- Assumes nothing.
-use borrow.Author.Rules.{rules}
 use Rattle.cellprism.proofs.answer_word.Goals as goal
 
 pub returns-in-Refused : goal.returns-in-Refused

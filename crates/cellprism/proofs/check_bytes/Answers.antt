@@ -10,7 +10,6 @@ use Rattle.verdict.specs.Check.{known_checked}
 use Rattle.judge.specs.Laws.Short.{known-short}
 use Rattle.cellprism.specs.Answer.{row_checked}
 use Rattle.cellprism.specs.Laws.Packing.{row_fits}
-use borrow.Author.Rules.{rules}
 use Rattle.base.specs.Laws.WaysOut.{waysOut}
 use Rattle.cellprism.proofs.check_bytes.Goals as goal
 

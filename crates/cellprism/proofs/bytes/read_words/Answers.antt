@@ -1,13 +1,10 @@
 -- `cellprism::bytes::read_words` meets its contract: the words below i are written.
 -- Assumes nothing.
 use mathlib.Core.Path.{refl, ◌∙◌}
-use Prim.Native.Nat.{◌≤◌, ◌-◌}
 use native.Mathlib.Omega.{arith}
 use borrow.Author.Rules.{rules}
-use lib.ListN.{length}
-use Rattle.base.specs.Written.{Written}
 use Rattle.base.specs.Laws.Written.{written_none, written-more, written_all}
-use Rattle.cellprism.proofs.Words.{word_in, words-all}
+use Rattle.cellprism.proofs.Words.{words-all}
 use Rattle.cellprism.proofs.bytes.read_words.Goals as goal
 
 pub loop-i-init : goal.loop-i-init

@@ -1,11 +1,29 @@
 -- `cellprism::short::short_yes` meets its contract: the one column, the columns that are packed, and the cycle judged from its words.
 -- Assumes nothing.
 use mathlib.Core.Path.{sym, ap₂, ◌∙◌}
-use borrow.Author.Tests.{not-true, not-false}
+use Rattle.std.proofs.Common.{arith}
 use Rattle.field.specs.Gf.{same}
-use Rattle.cellprism.specs.Laws.Packing.{short-judged, not_short, no_short}
-use borrow.Author.Rules.{rules}
+use Rattle.cellprism.specs.Laws.Packing.{row-length, short-judged, not_short, no_short}
 use Rattle.cellprism.proofs.short.short_yes.Goals as goal
+
+pub element-requires : goal.element-requires
+element-requires c = (omega (arith, row-length c.args.bytes.now), omega arith)
+
+pub pack_words-low-requires : goal.pack_words-low-requires
+pack_words-low-requires c =
+    record { order = omega arith; few = omega arith; words = omega (arith, row-length c.args.bytes.now); room = omega arith }
+
+pub pack_words-high-requires : goal.pack_words-high-requires
+pack_words-high-requires c =
+    record {
+      order = omega arith;
+      few = omega arith;
+      words = omega (arith, row-length c.args.bytes.now);
+      room = omega (arith, c.pack_words-low.ensures.lengths);
+    }
+
+pub element-requires-2 : goal.element-requires-2
+element-requires-2 c = (omega (arith, row-length c.args.bytes.now), omega arith)
 
 pub returns-then-not-same : goal.returns-then-not-same
 returns-then-not-same c =

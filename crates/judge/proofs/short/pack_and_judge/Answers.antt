@@ -6,7 +6,7 @@ use Rattle.judge.specs.Laws.Short.{of-bits, packed-room, not-of-bits, not-bits, 
 use Rattle.judge.proofs.short.pack_and_judge.Goals as goal
 
 pub element-requires : goal.element-requires
-element-requires c = let p = c.requires in omega (arith, p.words, allowed-range _ p.size)
+element-requires c = let p = c.requires in (omega (arith, p.words, allowed-range _ p.size), omega (arith, allowed-range _ p.size))
 
 pub judge_cycles-requires : goal.judge_cycles-requires
 judge_cycles-requires c =

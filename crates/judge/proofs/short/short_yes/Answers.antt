@@ -14,7 +14,7 @@ overflow_mul-cpi c = omega (arith, allowed-range _ (batch-yes _ _ (sym c.ask_bat
 pub element-requires : goal.element-requires
 element-requires c =
     let yes = batch-yes _ _ (sym c.ask_batch.ensures ∙ c.in-Yes.is) in
-    omega (arith, yes.1, allowed-range _ yes.0)
+    (omega (arith, yes.1, allowed-range _ yes.0), omega (arith, allowed-range _ yes.0))
 
 pub returns-then-not-same : goal.returns-then-not-same
 returns-then-not-same c =
