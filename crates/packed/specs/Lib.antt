@@ -1,4 +1,4 @@
--- Packed words. All but Packed, Storage, RoundTrips and Stacked serve contracts of private functions.
+-- Packed words. All but Packed, Storage, RoundTrips, Stacked and One serve contracts of private functions.
 -- What a reader must believe:
 --     Packed            packed words: 64 columns of a cycle a word, the lowest column in the lowest bit
 --     Storage           packed storage of a batch: batch order and cycle order, and the calls that pack, unpack and rearrange

@@ -2,7 +2,7 @@
 -- Assumes nothing.
 use Rattle.std.specs.Prelude.{◌≡◌, ℕ, ◌+◌, ◌-◌, ◌*◌, ◌/◌, ◌%◌, ◌<◌, ◌≤◌, true, List, ◌++◌, length, take, drop, ◌≢◌, slice_index, refl}
 use Rattle.std.proofs.Math.Path.{sym, ap}
-use Rattle.std.proofs.Common.{ap₂, ◌∙◌, add-mul, mul_assoc, mul-le-mul_right, one-mul, mod-lt, div-add-mod', div-lt_iff_lt-mul, arith, length-append, length-drop, length-take-le, get_or-take, get_or-drop, get_or-append-add}
+use Rattle.std.proofs.Common.{ap₂, ◌∙◌, add-mul, mul_assoc, mul-le-mul_right, one-mul, mod-lt, div-add-mod', div-lt_iff_lt-mul, arith, length-drop, length-take-le, get_or-take, get_or-drop, get_or-append-add}
 use Rattle.std.proofs.Math.Decide.{dec_lt}
 use Rattle.std.proofs.Math.Arith.{digits_lt}
 use Rattle.std.proofs.Math.ListN.{get_or-append}

@@ -1,6 +1,6 @@
 -- `packed::many::four_columns` meets its contract: the cycles passed have their four columns below what stood there, and were seen.
 -- Assumes nothing.
-use Rattle.std.proofs.Common.{◌-◌, ◌≤◌, length}
+use Rattle.std.proofs.Common.{◌≤◌, length}
 use Rattle.packed.specs.Laws.Columns.{FourTurn}
 use Rattle.packed.proofs.many.four_columns.Given as goal
 

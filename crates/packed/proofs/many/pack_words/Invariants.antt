@@ -1,6 +1,6 @@
 -- `packed::many::pack_words` meets its contract: the words passed stand in their places, of every cycle.
 -- Assumes nothing.
-use Rattle.std.proofs.Common.{◌≡◌, ◌-◌, ◌≤◌, length}
+use Rattle.std.proofs.Common.{◌≡◌, ◌≤◌, length}
 use Rattle.packed.specs.Ranges.{Ranged}
 use Rattle.packed.proofs.many.pack_words.Given as goal
 

@@ -1,6 +1,6 @@
 -- `packed::many::put_words` meets its contract: the cycles passed have their word, and nothing else moved.
 -- Assumes nothing.
-use Rattle.std.proofs.Common.{◌-◌, ◌≤◌, length}
+use Rattle.std.proofs.Common.{◌≤◌, length}
 use Rattle.packed.specs.Ranges.{Scattered}
 use Rattle.packed.proofs.many.put_words.Given as goal
 

@@ -1,6 +1,6 @@
 -- `packed::one::pack_words` meets its contract: the words passed stand in their places.
 -- Assumes nothing.
-use Rattle.std.proofs.Common.{◌-◌, ◌≤◌}
+use Rattle.std.proofs.Common.{◌≤◌}
 use Rattle.packed.specs.One.{InRow}
 use Rattle.packed.proofs.one.pack_words.Given as goal
 

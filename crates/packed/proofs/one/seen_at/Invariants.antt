@@ -1,6 +1,6 @@
 -- `packed::one::seen_at` meets its contract: the or of what was passed tells of each of them.
 -- Assumes nothing.
-use Rattle.std.proofs.Common.{◌-◌, ◌≤◌}
+use Rattle.std.proofs.Common.{◌≤◌}
 use Rattle.packed.specs.Laws.One.{SeenFrom}
 use Rattle.packed.proofs.one.seen_at.Given as goal
 

@@ -1,6 +1,6 @@
 -- `packed::order::get_words` meets its contract: the cycles passed have given their word.
 -- Assumes nothing.
-use Rattle.std.proofs.Common.{ℕ, ◌+◌, ◌-◌, ◌*◌, length, get_or}
+use Rattle.std.proofs.Common.{ℕ, ◌+◌, ◌*◌, get_or}
 use Rattle.base.specs.Written.{Written}
 use Rattle.packed.proofs.order.get_words.Given as goal
 

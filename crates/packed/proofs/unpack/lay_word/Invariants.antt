@@ -1,6 +1,6 @@
 -- `packed::unpack::lay_word` meets its contract: the bits passed stand as elements, and nothing else moved.
 -- Assumes nothing.
-use Rattle.std.proofs.Common.{◌≡◌, ◌-◌, ◌/◌, ◌^◌, ◌≤◌}
+use Rattle.std.proofs.Common.{◌≡◌, ◌/◌, ◌^◌, ◌≤◌}
 use Rattle.packed.specs.Unpack.{Laid}
 use Rattle.packed.proofs.unpack.lay_word.Given as goal
 

@@ -1,6 +1,6 @@
 -- `packed::unpack::lay_words` meets its contract: the words passed stand as elements, and nothing behind them moved.
 -- Assumes nothing.
-use Rattle.std.proofs.Common.{◌-◌, ◌≤◌, length}
+use Rattle.std.proofs.Common.{◌≤◌, length}
 use Rattle.packed.specs.Unpack.{Unpacked}
 use Rattle.packed.proofs.unpack.lay_words.Given as goal
 
