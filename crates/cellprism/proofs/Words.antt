@@ -1,4 +1,4 @@
--- Words of bytes, piece by piece: a word is two halves, and the words are those at each index.
+-- Words of bytes, piece by piece: what eight bytes spell, and the words are those at each index.
 -- Assumes nothing.
 use mathlib.Core.Path.{◌≡◌, refl, sym, ap, ◌∙◌}
 use mathlib.Core.List.{List, [], ◌∷◌}
@@ -19,11 +19,6 @@ four_bytes (a ∷ b ∷ []) = omega arith
 four_bytes (a ∷ b ∷ c ∷ []) = omega arith
 four_bytes (a ∷ b ∷ c ∷ d ∷ bs) = omega arith
 
-pub half_at : (bytes : List ℕ) (at : ℕ)
-    → number_of (take 4 (drop at bytes))
-    ≡ get_or bytes at 0 + 256 * (get_or bytes (at + 1) 0 + 256 * (get_or bytes (at + 2) 0 + 256 * get_or bytes (at + 3) 0))
-half_at bytes at = four_bytes (drop at bytes) ∙ simp (get_or-drop, add-zero)
-
 -- m + n bytes are m bytes, and n behind them
 number-split : (m n : ℕ) (bs : List ℕ) → number_of (take (m + n) bs) ≡ number_of (take m bs) + 256 ^ m * number_of (take n (drop m bs))
 unfolding number_of
@@ -34,9 +29,18 @@ number-split (suc m) n (b ∷ bs) =
     let higher = ap (λ p. p * number_of (take n (drop m bs))) (pow-succ' 256 m) ∙ mul_assoc 256 (256 ^ m) (number_of (take n (drop m bs))) in
     rw (suc-add m n) (omega arith)
 
+eight_bytes : (bs : List ℕ)
+    → number_of (take 8 bs)
+    ≡ get_or bs 0 0 + 256 * (get_or bs 1 0 + 256 * (get_or bs 2 0 + 256 * (get_or bs 3 0
+    + 256 * (get_or bs 4 0 + 256 * (get_or bs 5 0 + 256 * (get_or bs 6 0 + 256 * get_or bs 7 0))))))
+eight_bytes bs =
+    let high = simp get_or-drop at (four_bytes (drop 4 bs)) in omega (arith, number-split 4 4 bs, four_bytes bs, high)
+
 pub word_at : (bytes : List ℕ) (at : ℕ)
-    → number_of (take 8 (drop at bytes)) ≡ number_of (take 4 (drop at bytes)) + 2 ^ 32 * number_of (take 4 (drop (at + 4) bytes))
-word_at bytes at = rw (← drop-drop 4 at bytes) (number-split 4 4 (drop at bytes))
+    → number_of (take 8 (drop at bytes))
+    ≡ get_or bytes at 0 + 256 * (get_or bytes (at + 1) 0 + 256 * (get_or bytes (at + 2) 0 + 256 * (get_or bytes (at + 3) 0
+    + 256 * (get_or bytes (at + 4) 0 + 256 * (get_or bytes (at + 5) 0 + 256 * (get_or bytes (at + 6) 0 + 256 * get_or bytes (at + 7) 0))))))
+word_at bytes at = eight_bytes (drop at bytes) ∙ simp (get_or-drop, add-zero)
 
 -- word k of bytes
 abbrev pub word_in : List ℕ → ℕ → ℕ
