@@ -1,11 +1,8 @@
 -- `packed::many::four_columns` meets its contract: the cycles passed have their four columns below what stood there, and were seen.
 -- Assumes nothing.
-use Rattle.std.proofs.Common.{arith, rules}
-use Rattle.packed.specs.Laws.Columns.{first-turn, next-turn, last_turn}
+use Rattle.std.proofs.Common.{arith}
+use Rattle.packed.specs.Laws.Columns.{next-turn, last_turn}
 use Rattle.packed.proofs.many.four_columns.Goals as goal
-
-pub loop-word-init : goal.loop-word-init
-loop-word-init c = search (first-turn, rules)
 
 pub loop-word-preserved : goal.loop-word-preserved
 loop-word-preserved c =
@@ -15,9 +12,6 @@ loop-word-preserved c =
           (omega (arith, l.invariant.1.lengths, c.loop-word-test.true)) c.requires.two l.invariant.1 c.put_four.ensures
           c.seen_four-low.ensures c.seen_four-high.ensures,
     )
-
-pub shape_of-acc : goal.shape_of-acc
-shape_of-acc c = c.loop-word.invariant.1.lengths
 
 pub returns : goal.returns
 returns c =

@@ -1,12 +1,9 @@
 -- `packed::turn::step` meets its contract: the pairs passed stand at their places, exchanged.
 -- Assumes nothing.
-use Rattle.std.proofs.Common.{Bool, not, nat_eq, arith, rules}
+use Rattle.std.proofs.Common.{Bool, not, nat_eq, arith}
 use Rattle.packed.specs.Turn.{places_in}
-use Rattle.packed.specs.Laws.Queue.{apart_in, first-pairs, next-pairs-at, step-ends}
+use Rattle.packed.specs.Laws.Queue.{apart_in, next-pairs-at, step-ends}
 use Rattle.packed.proofs.turn.step.Goals as goal
-
-pub loop-k-init : goal.loop-k-init
-loop-k-init g c = search (first-pairs, rules)
 
 pub loop-k-preserved : goal.loop-k-preserved
 loop-k-preserved g c =
