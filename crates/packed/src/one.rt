@@ -10,7 +10,13 @@ fn four_at<W: Words>(batch: W, i: usize) -> u64
     requires { WordsFrom (W.words batch) i 8 }
     ensures { result ≡ row_sum (W.words batch) i 4 }
 {
-    four(1, batch.word(i), batch.word(i + 2), batch.word(i + 4), batch.word(i + 6))
+    four(
+        1,
+        batch.word(i),
+        batch.word(i + 2),
+        batch.word(i + 4),
+        batch.word(i + 6),
+    )
 }
 
 fn sixteen_at<W: Words>(batch: W, i: usize) -> u64
