@@ -1,6 +1,6 @@
 -- A block of 64 columns turned, by six steps over its words: two words that exchange bits, one step, and the block in the end.
 -- Assumes nothing.
-use Rattle.std.specs.Prelude.{◌≡◌, ℕ, ◌+◌, ◌*◌, ◌/◌, ◌%◌, ◌<◌, ◌≤◌, Bool, true, false, List, length, ◌==◌, slice_index}
+use Rattle.std.specs.Prelude.{◌≡◌, ℕ, ◌+◌, ◌*◌, ◌/◌, ◌%◌, ◌<◌, ◌≤◌, List, length, ◌==◌, slice_index}
 use Rattle.base.specs.Bits.{bit_at}
 use Rattle.packed.specs.Storage.{bit_in}
 
@@ -38,21 +38,12 @@ halves h = record { one = λ k. k; other = λ k. h + k }
 abbrev pub neighbours : Places
 neighbours = record { one = λ k. 2 * k; other = λ k. 2 * k + 1 }
 
-abbrev pub places_in : Bool → ℕ → Places
-places_in true h = halves h
-places_in false h = neighbours
-
 -- pair k of a, exchanged, is pair k of b
 abbrev pub Pair : ℕ → Places → Places → List ℕ → List ℕ → ℕ → Type 0
 Pair j r w a b k = Exchanged (slice_index a (r.one k)) (slice_index a (r.other k)) j (slice_index b (w.one k)) (slice_index b (w.other k))
 
 pub record Stepped (h j : ℕ) (a b : List ℕ) : Type 0 where
   pub pair : (k : ℕ) → k < h → Pair j (halves h) neighbours a b k
-
--- a step, or one undone: of words that are read and of those that are written
-abbrev pub Step : Bool → ℕ → ℕ → List ℕ → List ℕ → Type 0
-Step false h j read written = Stepped h j read written
-Step true h j read written = Stepped h j written read
 
 pub record StepIn (read written : List ℕ) (h j m : ℕ) : Type 0 where
   pub few : h ≤ 128

@@ -10,13 +10,11 @@ fn four_at<W: Words>(batch: W, i: usize) -> u64
     requires { WordsFrom (W.words batch) i 8 }
     ensures { result ≡ row_sum (W.words batch) i 4 }
 {
-    four(
-        1,
-        batch.word(i),
-        batch.word(i + 2),
-        batch.word(i + 4),
-        batch.word(i + 6),
-    )
+    let a = batch.word(i);
+    let b = batch.word(i + 2);
+    let c = batch.word(i + 4);
+    let d = batch.word(i + 6);
+    four(1, a, b, c, d)
 }
 
 fn sixteen_at<W: Words>(batch: W, i: usize) -> u64

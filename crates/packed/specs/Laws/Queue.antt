@@ -1,13 +1,13 @@
 -- A block of 2 h words turned. A step moves the top bit of a word's index into the word, at weight j, and the bit from there below the
 -- rest of the index. Six steps, j from 32 down to 1, bring bit c * 2 h + d of the block to bit c of word d, for every h.
 -- Assumes nothing.
-use Rattle.std.specs.Prelude.{◌≡◌, ℕ, ◌+◌, ◌*◌, ◌/◌, ◌%◌, ◌<◌, ◌≤◌, Bool, true, false, not, List, length, ◌≢◌, slice_index, slice_index_or, slice_set, refl}
+use Rattle.std.specs.Prelude.{◌≡◌, ℕ, ◌+◌, ◌*◌, ◌/◌, ◌%◌, ◌<◌, ◌≤◌, Bool, List, length, ◌≢◌, slice_index, slice_index_or, slice_set, refl}
 use Rattle.std.proofs.Common.{sym, ap, subst, ◌∙◌, mul_left_comm, mul_assoc, add-mul, one-mul, zero-mul, add-zero, zero-add, arith, below_none, below_more, length-set, get_or-set_same, get_or-set_other}
 use Rattle.std.proofs.Math.Arith.{digits_lt, digits_div}
 use Rattle.base.specs.Bits.{bit_at}
 use Rattle.base.specs.Laws.Numbers.{zero-or-one}
 use Rattle.packed.specs.Storage.{bit_in}
-use Rattle.packed.specs.Turn.{Even, Exchanged, Places, halves, neighbours, places_in, Pair, Stepped, Step, Turned}
+use Rattle.packed.specs.Turn.{Even, Exchanged, Places, halves, neighbours, Pair, Stepped, Turned}
 use Rattle.packed.specs.Laws.InWords.{bit_is}
 use Rattle.packed.specs.Laws.Exchange.{exchanged-back}
 
@@ -20,7 +20,7 @@ pub record Apart (w : Places) (h : ℕ) : Type 0 where
   pub one_later : (i k : ℕ) → i < k → k < h → (w.one i ≢ w.one k) × (w.one i ≢ w.other k)
   pub other-later : (i k : ℕ) → i < k → k < h → (w.other i ≢ w.one k) × (w.other i ≢ w.other k)
 
-halves-apart : (h : ℕ) → Apart (halves h) h
+pub halves-apart : (h : ℕ) → Apart (halves h) h
 halves-apart h =
     record {
       inside = λ k l. omega arith;
@@ -29,7 +29,7 @@ halves-apart h =
       other-later = λ i k l m. omega arith;
     }
 
-neighbours-apart : (h : ℕ) → Apart neighbours h
+pub neighbours-apart : (h : ℕ) → Apart neighbours h
 neighbours-apart h =
     record {
       inside = λ k l. omega arith;
@@ -37,10 +37,6 @@ neighbours-apart h =
       one_later = λ i k l m. omega arith;
       other-later = λ i k l m. omega arith;
     }
-
-pub apart_in : (b : Bool) (h : ℕ) → Apart (places_in b h) h
-apart_in true h = halves-apart h
-apart_in false h = neighbours-apart h
 
 -- the first n pairs are written
 pub record Pairs (j : ℕ) (r w : Places) (h : ℕ) (a b : List ℕ) (n : ℕ) : Type 0 where
@@ -52,7 +48,7 @@ module _ (j : ℕ) (r w : Places) (h : ℕ) (a b : List ℕ) where
   pub first-pairs : length b ≡ 2 * h → Pairs j r w h a b 0
   first-pairs e = record { count = omega arith; words = e; pair = below_none (Pair j r w a b) }
 
-  next-pairs : (n low high : ℕ) → Apart w h → n < h → Pairs j r w h a b n
+  pub next-pairs : (n low high : ℕ) → Apart w h → n < h → Pairs j r w h a b n
       → Exchanged (slice_index a (r.one n)) (slice_index a (r.other n)) j low high
       → Pairs j r w h a (slice_set (slice_set b (w.one n) low) (w.other n) high) (n + 1)
   next-pairs n low high o l t e =
@@ -82,23 +78,12 @@ module _ (j : ℕ) (r w : Places) (h : ℕ) (a b : List ℕ) where
       stays : (i : ℕ) → (i ≢ w.one n) → (i ≢ w.other n) → slice_index new i ≡ slice_index b i
       stays i f g = get_or-set_other once (w.other n) i high 0 g ∙ get_or-set_other b (w.one n) i low 0 f
 
-  -- with the places computed before
-  pub next-pairs-at : (n low high p q u v : ℕ) → p ≡ r.one n → q ≡ r.other n → u ≡ w.one n → v ≡ w.other n → Apart w h → n < h
-      → Pairs j r w h a b n → Exchanged (slice_index a p) (slice_index a q) j low high
-      → Pairs j r w h a (slice_set (slice_set b u low) v high) (n + 1)
-  next-pairs-at n low high p q u v ep eq eu ev o l t e = rw (eu, ev) (next-pairs n low high o l t (rw (ep, eq) at e))
-
 -- all pairs written from the halves side by side are a step; written from side by side into the halves, they are a step undone
-stepped : (h j : ℕ) (a b : List ℕ) (n : ℕ) → h ≤ n → Pairs j (halves h) neighbours h a b n → Stepped h j a b
+pub stepped : (h j : ℕ) (a b : List ℕ) (n : ℕ) → h ≤ n → Pairs j (halves h) neighbours h a b n → Stepped h j a b
 stepped h j a b n l t = record { pair = λ k m. t.pair k (omega arith) }
 
-undone : (h j : ℕ) (b a : List ℕ) (n : ℕ) → h ≤ n → Pairs j neighbours (halves h) h b a n → Stepped h j a b
+pub undone : (h j : ℕ) (b a : List ℕ) (n : ℕ) → h ≤ n → Pairs j neighbours (halves h) h b a n → Stepped h j a b
 undone h j b a n l t = record { pair = λ k m. exchanged-back (t.pair k (omega arith)) }
-
-pub step-ends : (back : Bool) (h j : ℕ) (read written : List ℕ) (n : ℕ) → h ≤ n
-    → Pairs j (places_in (not back) h) (places_in back h) h read written n → Step back h j read written
-step-ends false h j read written n l t = stepped h j read written n l t
-step-ends true h j read written n l t = undone h j read written n l t
 
 -- ---- where the bits stand
 

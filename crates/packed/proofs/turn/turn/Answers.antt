@@ -5,23 +5,23 @@ use Rattle.packed.specs.Laws.Exchange.{masks}
 use Rattle.packed.specs.Laws.Queue.{six-steps}
 use Rattle.packed.proofs.turn.turn.Goals as goal
 
-pub step-requires : goal.step-requires
-step-requires c = search (masks, rules)
+pub queue-requires : goal.queue-requires
+queue-requires c = search (masks, rules)
 
-pub step-requires-2 : goal.step-requires-2
-step-requires-2 c = search (masks, rules)
+pub queue-requires-2 : goal.queue-requires-2
+queue-requires-2 c = search (masks, rules)
 
-pub step-requires-3 : goal.step-requires-3
-step-requires-3 c = search (masks, rules)
+pub queue-requires-3 : goal.queue-requires-3
+queue-requires-3 c = search (masks, rules)
 
-pub step-requires-4 : goal.step-requires-4
-step-requires-4 c = search (masks, rules)
+pub queue-requires-4 : goal.queue-requires-4
+queue-requires-4 c = search (masks, rules)
 
-pub step-requires-5 : goal.step-requires-5
-step-requires-5 c = search (masks, rules)
+pub queue-requires-5 : goal.queue-requires-5
+queue-requires-5 c = search (masks, rules)
 
-pub step-requires-6 : goal.step-requires-6
-step-requires-6 c =
+pub queue-requires-6 : goal.queue-requires-6
+queue-requires-6 c =
     let s = c.requires in
     record { few = s.few; from-words = omega (arith, s); to-words = omega (arith, s); mask = search masks }
 

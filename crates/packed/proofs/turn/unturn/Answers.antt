@@ -5,27 +5,27 @@ use Rattle.packed.specs.Laws.Exchange.{masks}
 use Rattle.packed.specs.Laws.Queue.{six-steps}
 use Rattle.packed.proofs.turn.unturn.Goals as goal
 
-pub step-requires : goal.step-requires
-step-requires c = search (masks, rules)
+pub unqueue-requires : goal.unqueue-requires
+unqueue-requires c = search (masks, rules)
 
-pub step-requires-2 : goal.step-requires-2
-step-requires-2 c = search (masks, rules)
+pub unqueue-requires-2 : goal.unqueue-requires-2
+unqueue-requires-2 c = search (masks, rules)
 
-pub step-requires-3 : goal.step-requires-3
-step-requires-3 c = search (masks, rules)
+pub unqueue-requires-3 : goal.unqueue-requires-3
+unqueue-requires-3 c = search (masks, rules)
 
-pub step-requires-4 : goal.step-requires-4
-step-requires-4 c = search (masks, rules)
+pub unqueue-requires-4 : goal.unqueue-requires-4
+unqueue-requires-4 c = search (masks, rules)
 
-pub step-requires-5 : goal.step-requires-5
-step-requires-5 c = search (masks, rules)
+pub unqueue-requires-5 : goal.unqueue-requires-5
+unqueue-requires-5 c = search (masks, rules)
 
-pub step-requires-6 : goal.step-requires-6
-step-requires-6 c =
+pub unqueue-requires-6 : goal.unqueue-requires-6
+unqueue-requires-6 c =
     let s = c.requires in
     record { few = s.few; from-words = omega (arith, s); to-words = s.block; mask = search masks }
 
 pub returns : goal.returns
 returns c =
-    six-steps _ _ _ _ _ _ _ _ c.step-6.ensures c.step-5.ensures c.step-4.ensures c.step-3.ensures
-    c.step-2.ensures c.step.ensures
+    six-steps _ _ _ _ _ _ _ _ c.unqueue-6.ensures c.unqueue-5.ensures c.unqueue-4.ensures c.unqueue-3.ensures
+    c.unqueue-2.ensures c.unqueue.ensures
