@@ -1,23 +1,11 @@
--- The words that bytes stand for, and reading the bytes of a row into its words.
+-- Reading the bytes of a row into its words.
 -- Assumes nothing.
 use Rattle.std.specs.Prelude.{cond, List, [], ◌∷◌, ℕ, zero, suc, ◌+◌, ◌*◌, eqb, length, take, drop, Err, Ok}
 use Rattle.layout.specs.Batch.{ROW-WORDS}
 use Rattle.layout.specs.Questions.{no, Called, after, Asked}
 use Rattle.layout.specs.declared.questions.Question.TheVariants.{BatchLength}
-
--- the number that bytes spell, the lowest byte first
-unfoldable pub number_of : List ℕ → ℕ
-number_of [] = 0
-number_of (b ∷ bytes) = b + 256 * number_of bytes
-
--- n words, each of the next 8 bytes
-unfoldable pub words_of : ℕ → List ℕ → List ℕ
-words_of zero bytes = []
-words_of (suc n) bytes = number_of (take 8 bytes) ∷ words_of n (drop 8 bytes)
-
--- the row of 65,536 bytes: the 8,192 words of a batch of one cycle
-abbrev pub row_of : List ℕ → List ℕ
-row_of bytes = words_of ROW-WORDS bytes
+unfoldable pub use Rattle.packed.specs.Bytes.{number_of, words_of}
+pub use Rattle.packed.specs.Bytes.{row_of}
 
 -- question 2, of the bytes that are read and of the words that they are read into
 abbrev pub read_asked : ℕ → ℕ → Asked

@@ -1,7 +1,6 @@
 // The C boundary of Cellprism: the check of one row, handed over as bytes and answered by one number.
 #![tactic(auto)]
 
-mod bytes;
 mod short;
 
 ghost use Rattle.std.specs.Prelude.{◌≡◌, ◌≤◌};
@@ -12,6 +11,7 @@ ghost use Rattle.cellprism.specs.Answer.{row_checked, verdict_word, answer_word}
 
 use circuit::Relation;
 use layout::{Question, Refusal};
+use packed::bytes::RowBytes;
 use strict::Known;
 use verdict::{Counts, Verdict};
 
@@ -55,12 +55,13 @@ pub fn check_bytes(bytes: &[u8]) -> Result<Verdict, Refusal>
     if bytes.len() != 65536 {
         return Err(Question::BatchLength.refused());
     }
-    if short::short_yes(bytes) {
+    let row = RowBytes { bytes };
+    if short::short_yes(row) {
         let counts = Counts { bin: 483, fld: 31 };
         return Ok(Verdict::Accepted { counts });
     }
     let mut words = [0u64; layout::ROW_WORDS];
-    bytes::read_words(bytes, &mut words);
+    row.read(&mut words);
     verdict::check_known(Known::House, 1, &words)
 }
 
@@ -75,7 +76,7 @@ pub fn read_bytes(bytes: &[u8], words: &mut [u64]) -> Result<(), Refusal>
     if words.len() != layout::ROW_WORDS {
         return Err(Question::BatchLength.refused());
     }
-    bytes::read_words(bytes, words);
+    RowBytes { bytes }.read(words);
     Ok(())
 }
 

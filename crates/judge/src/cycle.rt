@@ -117,12 +117,10 @@ pub fn judge_cycles(which: Known, cpi: usize, words: &[u64], output: Gf128) -> b
     requires { (cpi ≤ 256) × (length words.now ≡ 32 * cpi) }
     ensures { result ≡ all_judged which words.now output cpi 0 }
 {
-    let mut cycle: usize = 0;
-    while cycle < cpi {
+    for cycle in 0..cpi {
         if !judge_cycle(which, words, 32 * cycle, output) {
             return false;
         }
-        cycle = cycle + 1;
     }
     true
 }

@@ -1,6 +1,6 @@
 // The short way: an accepted batch of bits is seen to be one with no listing read. A no says nothing of the batch but that the listing has
 // to be walked.
-ghost use Rattle.std.specs.Prelude.{true, ◌↔◌, ◌≡◌, ◌+◌, ◌*◌, ◌<◌, length, replicate};
+ghost use Rattle.std.specs.Prelude.{true, ◌↔◌, ◌≡◌, ◌+◌, ◌*◌, ◌<◌, ◌≤◌, length, replicate};
 ghost use Rattle.verdict.specs.Row.{element_at};
 ghost use Rattle.packed.specs.Packed.{NamedCalled, named_called};
 ghost use Rattle.packed.specs.Named.{NamedIn};
@@ -40,30 +40,13 @@ fn pack_and_judge(which: Known, cpi: usize, batch: &[u64], out: &mut [u64]) -> b
     }
 }
 
-fn short_one(which: Known, batch: &[u64]) -> bool
-    requires { ShortIn 1 batch.now }
-    ensures { result ≡ short_bits which 1 batch.now (replicate 32 0) }
-{
-    let mut out = [0u64; 32];
-    pack_and_judge(which, 1, batch, &mut out)
-}
-
-fn short_small(which: Known, cpi: usize, batch: &[u64]) -> bool
-    requires { ShortIn cpi batch.now × (cpi < 17) }
+// With room for N words on the stack, 32 for each cycle.
+fn short_in<const N: usize>(which: Known, cpi: usize, batch: &[u64]) -> bool
+    requires { ShortIn cpi batch.now × (32 * cpi ≤ N) × (N ≤ 8192) }
     ensures { result ≡ short_bits which cpi batch.now (replicate (32 * cpi) 0) }
 {
-    let mut out = [0u64; 512];
-    let words = 32 * cpi;
-    pack_and_judge(which, cpi, batch, &mut out[..words])
-}
-
-fn short_large(which: Known, cpi: usize, batch: &[u64]) -> bool
-    requires { ShortIn cpi batch.now }
-    ensures { result ≡ short_bits which cpi batch.now (replicate (32 * cpi) 0) }
-{
-    let mut out = [0u64; 8192]; // 32 words for each of 256 cycles
-    let words = 32 * cpi;
-    pack_and_judge(which, cpi, batch, &mut out[..words])
+    let mut out = [0u64; N];
+    pack_and_judge(which, cpi, batch, &mut out[..32 * cpi])
 }
 
 // By the size, so that a small batch clears a small slice.
@@ -72,12 +55,12 @@ fn short_bits(which: Known, cpi: usize, batch: &[u64]) -> bool
     ensures { result ≡ short_bits which cpi batch.now (replicate (32 * cpi) 0) }
 {
     if cpi == 1 {
-        return short_one(which, batch);
+        return short_in::<32>(which, 1, batch);
     }
     if cpi < 17 {
-        return short_small(which, cpi, batch);
+        return short_in::<512>(which, cpi, batch);
     }
-    short_large(which, cpi, batch)
+    short_in::<8192>(which, cpi, batch)
 }
 
 // Of a batch against a known listing.

@@ -1,4 +1,5 @@
 -- Laws, which the prover checks; nobody has to believe them.
+--     Bytes             the words of a row that is handed over as bytes
 --     Columns           columns stacked four and a word at a time, turn by turn, and what they hold in the end
 --     Example           a batch of two cycles, all zero but for column 65 of cycle 1: bit 1 of word 33 alone is set
 --     Exchange          two words that exchange bits: the code's operations do it, and its masks are right
@@ -12,6 +13,7 @@
 --     Seen              what the or of words tells: whether each of them is a bit
 --     Stacked           bits pushed on a word, one by one and four at a time
 --     Words             column c of cycle d is bit c % 64 of word 32 · d + c / 64
+pub mod Bytes
 pub mod Columns
 pub mod Example
 pub mod Exchange

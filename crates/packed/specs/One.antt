@@ -14,6 +14,10 @@ low_from b i x = slice_index b (i + 2 * x)
 abbrev pub row_sum : List ℕ → ℕ → ℕ → ℕ
 row_sum b i n = stacked (low_from b i) 0 n % 2 ^ 64
 
+-- n words from word i on, no further than the largest batch reaches
+abbrev pub WordsFrom : List ℕ → ℕ → ℕ → Type 0
+WordsFrom words i n = (i + n ≤ length words) × (i + n ≤ 8192 * 256)
+
 -- ---- word after word
 
 abbrev pub BitsFrom : List ℕ → ℕ → Type 0

@@ -2,6 +2,7 @@
 // bit c % 64 of word 32 · d + c / 64. Packed storage of a batch is in `storage`.
 #![tactic(auto)]
 
+pub mod bytes;
 mod many;
 mod one;
 mod order;
@@ -9,8 +10,9 @@ pub mod storage;
 pub mod sums;
 mod turn;
 mod unpack;
+mod words;
 
-ghost use Rattle.std.specs.Prelude.{◌≡◌, ◌<◌, length};
+ghost use Rattle.std.specs.Prelude.{◌≡◌, ◌≤◌, length};
 ghost use Rattle.packed.specs.Packed.{pack_asked, NamedCalled, named_called};
 ghost use Rattle.packed.specs.Named.{Named, NamedIn};
 
@@ -38,19 +40,12 @@ fn pack_many(cpi: usize, batch: &[u64], acc: &mut [u64], out: &mut [u64]) -> u64
     low | high
 }
 
-fn pack_small(cpi: usize, batch: &[u64], out: &mut [u64]) -> u64
-    requires { NamedIn cpi batch.now out.old × (cpi < 17) }
+// The same, with room for N cycles on the stack.
+fn pack_in<const N: usize>(cpi: usize, batch: &[u64], out: &mut [u64]) -> u64
+    requires { NamedIn cpi batch.now out.old × (cpi ≤ N) × (N ≤ 256) }
     ensures { Named cpi batch.now out.old out.new result }
 {
-    let mut acc = [0u64; 16];
-    pack_many(cpi, batch, &mut acc[..cpi], out)
-}
-
-fn pack_large(cpi: usize, batch: &[u64], out: &mut [u64]) -> u64
-    requires { NamedIn cpi batch.now out.old }
-    ensures { Named cpi batch.now out.old out.new result }
-{
-    let mut acc = [0u64; 256];
+    let mut acc = [0u64; N];
     pack_many(cpi, batch, &mut acc[..cpi], out)
 }
 
@@ -62,9 +57,9 @@ fn pack(cpi: usize, batch: &[u64], out: &mut [u64]) -> u64
         return pack_one(batch, out);
     }
     if cpi < 17 {
-        return pack_small(cpi, batch, out);
+        return pack_in::<16>(cpi, batch, out);
     }
-    pack_large(cpi, batch, out)
+    pack_in::<256>(cpi, batch, out)
 }
 
 // Questions 1, 2 and 18.

@@ -31,14 +31,12 @@ fn four_columns(batch: &[u64], at: usize, s: usize, step: usize, acc: &mut [u64]
 {
     let mut low: u64 = 0;
     let mut high: u64 = 0;
-    let mut d: usize = 0;
     let mut i = at;
-    while d < acc.len() {
-        acc[d] = put_four(batch, i, s, acc[d]);
+    for word in acc.iter_mut() {
+        *word = put_four(batch, i, s, *word);
         low = seen_four(batch, i, s, low);
         high = seen_four(batch, i + 1, s, high);
-        d = d + 1;
-        i = i + step;
+        i += step;
     }
     (low >> 1) | high
 }
@@ -49,11 +47,9 @@ fn word_columns(cpi: usize, batch: &[u64], step: usize, k: usize, acc: &mut [u64
     ensures { WordPut cpi batch.now k acc.new result }
 {
     let mut bad: u64 = 0;
-    let mut j: usize = 16;
-    while 0 < j {
-        j = j - 1;
+    for j in (0..16).rev() {
         let at = (64 * k + 4 * j) * (2 * cpi);
-        bad = bad | four_columns(batch, at, 2 * cpi, step, acc);
+        bad |= four_columns(batch, at, 2 * cpi, step, acc);
     }
     bad
 }
@@ -63,10 +59,8 @@ pub fn put_words(acc: &[u64], k: usize, out: &mut [u64])
     requires { (k < 32) × (32 * length acc.now ≤ length out.old) }
     ensures { Scattered acc.now k (length acc.now) out.old out.new }
 {
-    let mut d: usize = 0;
-    while d < acc.len() {
-        out[32 * d + k] = acc[d];
-        d = d + 1;
+    for (d, word) in acc.iter().enumerate() {
+        out[32 * d + k] = *word;
     }
 }
 
@@ -84,12 +78,10 @@ pub fn pack_words(
     ensures { Ranged cpi batch.now first last out.old out.new result }
 {
     let mut bad: u64 = 0;
-    let mut k = first;
-    while k < last {
+    for k in first..last {
         verdict::clear(acc);
-        bad = bad | word_columns(cpi, batch, step, k, acc);
+        bad |= word_columns(cpi, batch, step, k, acc);
         put_words(acc, k, out);
-        k = k + 1;
     }
     bad
 }

@@ -1,20 +1,25 @@
-// Columns that stand one after the other: those of one cycle, and those of a batch in batch order.
+// Columns that stand one after the other: those of one cycle, and those of a batch in batch order, whatever holds their words.
 ghost use Rattle.std.specs.Prelude.{◌≡◌, ◌+◌, ◌*◌, ◌<◌, ◌≤◌, ◌↔◌, length};
-ghost use Rattle.packed.specs.One.{row_sum, BitsFrom, RowIn, InRow};
+ghost use Rattle.packed.specs.One.{row_sum, WordsFrom, BitsFrom, RowIn, InRow};
 
 use crate::sums::four;
+use crate::words::Words;
 
 // The sum of four columns, whose words stand from word i on.
-fn four_at(batch: &[u64], i: usize) -> u64
-    requires { i + 8 ≤ length batch.now }
-    ensures { result ≡ row_sum batch.now i 4 }
+fn four_at<W: Words>(batch: W, i: usize) -> u64
+    requires { WordsFrom (W.words batch) i 8 }
+    ensures { result ≡ row_sum (W.words batch) i 4 }
 {
-    four(1, batch[i], batch[i + 2], batch[i + 4], batch[i + 6])
+    let a = batch.word(i);
+    let b = batch.word(i + 2);
+    let c = batch.word(i + 4);
+    let d = batch.word(i + 6);
+    four(1, a, b, c, d)
 }
 
-fn sixteen_at(batch: &[u64], i: usize) -> u64
-    requires { i + 32 ≤ length batch.now }
-    ensures { result ≡ row_sum batch.now i 16 }
+fn sixteen_at<W: Words>(batch: W, i: usize) -> u64
+    requires { WordsFrom (W.words batch) i 32 }
+    ensures { result ≡ row_sum (W.words batch) i 16 }
 {
     let a = four_at(batch, i);
     let b = four_at(batch, i + 8);
@@ -23,9 +28,9 @@ fn sixteen_at(batch: &[u64], i: usize) -> u64
     four(4, a, b, c, d)
 }
 
-fn word_at(batch: &[u64], i: usize) -> u64
-    requires { i + 128 ≤ length batch.now }
-    ensures { result ≡ row_sum batch.now i 64 }
+fn word_at<W: Words>(batch: W, i: usize) -> u64
+    requires { WordsFrom (W.words batch) i 128 }
+    ensures { result ≡ row_sum (W.words batch) i 64 }
 {
     let a = sixteen_at(batch, i);
     let b = sixteen_at(batch, i + 32);
@@ -35,32 +40,28 @@ fn word_at(batch: &[u64], i: usize) -> u64
 }
 
 // 0 exactly where the 64 elements from word i on are bits.
-fn seen_at(batch: &[u64], i: usize) -> u64
-    requires { i + 128 ≤ length batch.now }
-    ensures { (result ≡ 0) ↔ BitsFrom batch.now i }
+fn seen_at<W: Words>(batch: W, i: usize) -> u64
+    requires { WordsFrom (W.words batch) i 128 }
+    ensures { (result ≡ 0) ↔ BitsFrom (W.words batch) i }
 {
     let mut low: u64 = 0;
     let mut high: u64 = 0;
-    let mut j: usize = 0;
-    while j < 64 {
-        low = low | batch[i + 2 * j];
-        high = high | batch[i + 2 * j + 1];
-        j = j + 1;
+    for j in 0..64 {
+        low |= batch.word(i + 2 * j);
+        high |= batch.word(i + 2 * j + 1);
     }
     (low >> 1) | high
 }
 
 // Words `first` to before `last`. The answer is 0 exactly where their columns are bits.
-pub fn pack_words(batch: &[u64], first: usize, last: usize, out: &mut [u64]) -> u64
-    requires { RowIn batch.now first last out.old }
-    ensures { InRow batch.now first last out.old out.new result }
+pub fn pack_words<W: Words>(batch: W, first: usize, last: usize, out: &mut [u64]) -> u64
+    requires { RowIn (W.words batch) first last out.old }
+    ensures { InRow (W.words batch) first last out.old out.new result }
 {
     let mut bad: u64 = 0;
-    let mut k = first;
-    while k < last {
-        bad = bad | seen_at(batch, 128 * k);
+    for k in first..last {
+        bad |= seen_at(batch, 128 * k);
         out[k] = word_at(batch, 128 * k);
-        k = k + 1;
     }
     bad
 }

@@ -18,51 +18,30 @@ fn get_words(words: &[u64], k: usize, acc: &mut [u64])
     requires { (k < 32) × (32 * length acc.old ≤ length words.now) }
     ensures { Gathered words.now k acc.new }
 {
-    let mut d: usize = 0;
-    while d < acc.len() {
-        acc[d] = words[32 * d + k];
-        d = d + 1;
+    for (d, word) in acc.iter_mut().enumerate() {
+        *word = words[32 * d + k];
     }
 }
 
 // a and b are lent, a block each.
-fn blocks_into_cycles(cpi: usize, words: &[u64], a: &mut [u64], b: &mut [u64], out: &mut [u64])
-    requires { BlocksIn cpi words.now a.old b.old out.old }
-    ensures { out.new ≡ by_cycle cpi words.now }
-{
-    let h = cpi / 2;
-    let mut q: usize = 0;
-    while q < 32 {
-        let start = q * cpi;
-        let end = start + cpi;
-        turn(&words[start..end], a, b, h);
-        put_words(a, q, out);
-        q = q + 1;
-    }
-}
-
-fn blocks_into_batch(cpi: usize, words: &[u64], a: &mut [u64], b: &mut [u64], out: &mut [u64])
-    requires { BlocksIn cpi words.now a.old b.old out.old }
-    ensures { out.new ≡ by_batch cpi words.now }
-{
-    let h = cpi / 2;
-    let mut q: usize = 0;
-    while q < 32 {
-        let start = q * cpi;
-        let end = start + cpi;
-        get_words(words, q, a);
-        unturn(a, b, &mut out[start..end], h);
-        q = q + 1;
-    }
-}
-
 fn blocks(order: Order, cpi: usize, words: &[u64], a: &mut [u64], b: &mut [u64], out: &mut [u64])
     requires { BlocksIn cpi words.now a.old b.old out.old }
     ensures { out.new ≡ put_into order cpi words.now }
 {
-    match order {
-        Order::Batch => blocks_into_batch(cpi, words, a, b, out),
-        Order::Cycles => blocks_into_cycles(cpi, words, a, b, out),
+    let h = cpi / 2;
+    for q in 0..32 {
+        let start = q * cpi;
+        let end = start + cpi;
+        match order {
+            Order::Batch => {
+                get_words(words, q, a);
+                unturn(a, b, &mut out[start..end], h);
+            }
+            Order::Cycles => {
+                turn(&words[start..end], a, b, h);
+                put_words(a, q, out);
+            }
+        }
     }
 }
 

@@ -1,5 +1,5 @@
 // Packed storage of a batch: one bit a column below one_col, 64 to a word, in batch order or in cycle order.
-ghost use Rattle.std.specs.Prelude.{◌≡◌, ◌*◌, ◌<◌, length};
+ghost use Rattle.std.specs.Prelude.{◌≡◌, ◌*◌, ◌≤◌, length};
 ghost use Rattle.layout.specs.Questions.{Called};
 ghost use Rattle.packed.specs.Storage.{pack_called, pack_cycles_called, unpack_called, order_asked, to_cycles_called, to_batch_called};
 ghost use Rattle.packed.specs.Named.{NamedIn};
@@ -27,19 +27,11 @@ fn hand_over(order: Order, cpi: usize, batch: &[u64], made: &mut [u64], out: &mu
 }
 
 // The words that are made stand on the stack, which is cleared first: few cycles get a short piece of it, which costs them less.
-fn hand_small(order: Order, cpi: usize, batch: &[u64], out: &mut [u64]) -> bool
-    requires { NamedIn cpi batch.now out.old × (cpi < 17) }
+fn hand_in<const N: usize>(order: Order, cpi: usize, batch: &[u64], out: &mut [u64]) -> bool
+    requires { NamedIn cpi batch.now out.old × (32 * cpi ≤ N) × (N ≤ 8192) }
     ensures { Handed order cpi batch.now out.old out.new result }
 {
-    let mut made = [0u64; 512];
-    hand_over(order, cpi, batch, &mut made[..32 * cpi], out)
-}
-
-fn hand_large(order: Order, cpi: usize, batch: &[u64], out: &mut [u64]) -> bool
-    requires { NamedIn cpi batch.now out.old }
-    ensures { Handed order cpi batch.now out.old out.new result }
-{
-    let mut made = [0u64; 8192];
+    let mut made = [0u64; N];
     hand_over(order, cpi, batch, &mut made[..32 * cpi], out)
 }
 
@@ -48,9 +40,9 @@ fn hand(order: Order, cpi: usize, batch: &[u64], out: &mut [u64]) -> bool
     ensures { Handed order cpi batch.now out.old out.new result }
 {
     if cpi < 17 {
-        return hand_small(order, cpi, batch, out);
+        return hand_in::<512>(order, cpi, batch, out);
     }
-    hand_large(order, cpi, batch, out)
+    hand_in::<8192>(order, cpi, batch, out)
 }
 
 // Questions 1, 2, 18 and 17.

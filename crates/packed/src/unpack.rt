@@ -8,12 +8,10 @@ fn lay_word(w: u64, at: usize, batch: &mut [u64])
     ensures { Laid w at 64 batch.old batch.new }
 {
     let mut rest = w;
-    let mut j: usize = 0;
-    while j < 64 {
+    for j in 0..64 {
         batch[at + 2 * j] = rest % 2;
         batch[at + 2 * j + 1] = 0;
-        rest = rest >> 1;
-        j = j + 1;
+        rest >>= 1;
     }
 }
 
@@ -22,9 +20,7 @@ pub fn lay_words(words: &[u64], batch: &mut [u64])
     requires { UnpackIn words.now batch.old }
     ensures { Unpacked words.now (length words.now) batch.old batch.new }
 {
-    let mut k: usize = 0;
-    while k < words.len() {
-        lay_word(words[k], 128 * k, batch);
-        k = k + 1;
+    for (k, word) in words.iter().enumerate() {
+        lay_word(*word, 128 * k, batch);
     }
 }

@@ -1,7 +1,6 @@
 -- `cellprism::cellprism_check_row` meets its contract: the check, and the word of its answer.
 -- Assumes nothing.
 use mathlib.Core.Path.{ap, ◌∙◌}
-use borrow.Author.Rules.{rules}
 use Rattle.cellprism.specs.Answer.{answer_word}
 use Rattle.cellprism.proofs.cellprism_check_row.Goals as goal
 

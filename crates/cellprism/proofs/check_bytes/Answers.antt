@@ -10,7 +10,6 @@ use Rattle.verdict.specs.Check.{known_checked}
 use Rattle.judge.specs.Laws.Short.{known-short}
 use Rattle.cellprism.specs.Answer.{row_checked}
 use Rattle.cellprism.specs.Laws.Packing.{row_fits}
-use borrow.Author.Rules.{rules}
 use Rattle.base.specs.Laws.WaysOut.{waysOut}
 use Rattle.cellprism.proofs.check_bytes.Goals as goal
 
@@ -28,4 +27,4 @@ returns-then-short_yes c =
 pub returns : goal.returns
 unfolding row_checked
 returns c =
-    c.check_known.ensures ∙ ap (known_checked House 1) c.read_words.ensures ∙ passed _ _ _ (eq-eqb _ _ c.if-bytes-ne65536.false)
+    c.check_known.ensures ∙ ap (known_checked House 1) c.read.ensures ∙ passed _ _ _ (eq-eqb _ _ c.if-bytes-ne65536.false)

@@ -3,7 +3,6 @@
 use mathlib.Core.Path.{◌≡◌, ap, ◌∙◌}
 use mathlib.Core.List.{List}
 use Prim.Native.Nat.{ℕ}
-use borrow.Author.Rules.{rules}
 use borrow.Author.Tests.{eq-eqb, ne_eqb}
 use lib.ListN.{length}
 use Rattle.base.specs.Laws.Tests.{passed, refused}
@@ -33,5 +32,5 @@ pub returns : goal.returns
 returns c =
     let a = c.args in
     ap (λ (ws : List ℕ). record { answer = Ok tt; batch = ws })
-    (c.read_words.ensures ∙ ap (λ (n : ℕ). words_of n a.bytes.now) c.if-words-ne-ROW_WORDS.false)
+    (c.read.ensures ∙ ap (λ (n : ℕ). words_of n a.bytes.now) c.if-words-ne-ROW_WORDS.false)
     ∙ told a.bytes.now a.words.now (Ok tt) (passed _ _ _ (eq-eqb _ _ c.if-words-ne-ROW_WORDS.false) ∙ passed _ _ _ (eq-eqb _ _ c.if-bytes.false))

@@ -1,6 +1,5 @@
 -- `cellprism::verdict_word` meets its contract: each arm is the word of its case, and its parts have bits of their own.
 -- Assumes nothing.
-use borrow.Author.Rules.{rules}
 use Rattle.cellprism.proofs.verdict_word.Goals as goal
 
 pub returns-in-Accepted : goal.returns-in-Accepted

@@ -16,6 +16,7 @@ use Rattle.layout.specs.Batch.{allowed, ROW-WORDS, batch_asked}
 use Rattle.layout.specs.Laws.Questions.{yes-batch}
 use Rattle.strict.specs.declared.Known.TheVariants.{House}
 use Rattle.verdict.specs.Row.{element_at}
+use Rattle.packed.specs.Laws.Bytes.{word_of, row-length}
 use Rattle.packed.specs.Packed.{packed_named, named_bits}
 use Rattle.packed.specs.One.{InRow}
 use Rattle.packed.specs.Named.{Named}
@@ -27,23 +28,6 @@ use Rattle.judge.specs.Laws.Short.{no_one, left-bits}
 use Rattle.cellprism.specs.Bytes.{number_of, words_of, row_of}
 
 -- ---- the words of a row
-
-pub word_of : (n i : ℕ) (bytes : List ℕ) → i < n → get_or (words_of n bytes) i 0 ≡ number_of (take 8 (drop (8 * i) bytes))
-unfolding words_of
-word_of zero i bytes l = absurd (omega arith)
-word_of (suc n) zero bytes l = refl
-word_of (suc n) (suc i) bytes l =
-    let e : 8 * suc i ≡ 8 + 8 * i = omega arith in
-    word_of n i (drop 8 bytes) (omega arith)
-    ∙ ap (λ (b : List ℕ). number_of (take 8 b)) (drop-drop (8 * i) 8 bytes ∙ ap (λ (k : ℕ). drop k bytes) (sym e))
-
-words-length : (n : ℕ) (bytes : List ℕ) → length (words_of n bytes) ≡ n
-unfolding words_of
-words-length zero bytes = refl
-words-length (suc n) bytes = ap suc (words-length n (drop 8 bytes))
-
-pub row-length : (bytes : List ℕ) → length (row_of bytes) ≡ ROW-WORDS
-row-length bytes = words-length ROW-WORDS bytes
 
 pub row-asked : (bytes : List ℕ) → batch_asked 1 (length (row_of bytes)) ≡ Ok tt
 unfolding allowed
@@ -72,32 +56,27 @@ row_fits bytes h i = go (dec_lt i ROW-WORDS)
 
 -- ---- the short way
 
-module _ (bytes now after : List ℕ) (low high : ℕ) (h : InRow (row_of bytes) 0 15 (replicate 32 0) now low)
-    (g : InRow (row_of bytes) 16 18 now after high) (o : same (element_at (row_of bytes) 2048) one ≡ true) where
+module _ (bytes : List ℕ) (o : same (element_at (row_of bytes) 2048) one ≡ true) where
   abbrev row : List ℕ
   row = row_of bytes
-
-  named : Named 1 row (replicate 32 0) after (bit_or low high)
-  named = both-rows row (replicate 32 0) now after low high h g
 
   left : short_bits House 1 row (replicate 32 0) ≡ short_yes House 1 row
   left = left-bits House 1 row (row-asked bytes) o
 
-  pub short-judged : {x : Gf128} {r : Bool} → bit_or low high ≡ 0 → x ≡ element_at row 2049 → r ≡ judged_words House (λ k. get_or after k 0) x
-      → r ≡ short_yes House 1 row
+  -- `after` are the packed words
+  pub short-judged : {after : List ℕ} {x : Gf128} {r : Bool} → after ≡ packed_named 1 row (replicate 32 0) → named_bits 1 row ≡ true
+      → x ≡ element_at row 2049 → r ≡ judged_words House (λ k. get_or after k 0) x → r ≡ short_yes House 1 row
   unfolding short_bits all_judged
-  short-judged z e j =
+  short-judged {after} packs bits e j =
       let out = packed_named 1 row (replicate 32 0) in let output = element_at row 2049 in
-      let packs = named-out 1 row (replicate 32 0) after (bit_or low high) refl named in
       j ∙ judged-agree (λ k. get_or after k 0) (words_from out 0) (λ k _. ap₂ (λ (u : List ℕ) (i : ℕ). get_or u i 0) packs (omega arith)) House _
       ∙ ap (judged_words House (words_from out 0)) e ∙ sym (and-true (judged_words House (words_from out 0) output))
-      ∙ ap (λ (t : Bool). t && (judged_words House (words_from out 0) output && true)) (sym (named.bits.0 z)) ∙ left
+      ∙ ap (λ (t : Bool). t && (judged_words House (words_from out 0) output && true)) (sym bits) ∙ left
 
-  pub not_short : (bit_or low high ≡ 0 → ⊥) → false ≡ short_yes House 1 row
+  pub not_short : named_bits 1 row ≡ false → false ≡ short_yes House 1 row
   unfolding short_bits
   not_short f =
-      ap (λ (t : Bool). t && all_judged House (packed_named 1 row (replicate 32 0)) (element_at row 2049) 1 0)
-      (sym (no_true (named_bits 1 row) (λ e. f (named.bits.1 e)))) ∙ left
+      ap (λ (t : Bool). t && all_judged House (packed_named 1 row (replicate 32 0)) (element_at row 2049) 1 0) (sym f) ∙ left
 
 pub no_short : (bytes : List ℕ) → same (element_at (row_of bytes) 2048) one ≡ false → false ≡ short_yes House 1 (row_of bytes)
 no_short bytes e = no_one House 1 (row_of bytes) (row-asked bytes) e

@@ -167,7 +167,7 @@ module _ (cpi : ℕ) (batch out : List ℕ) where
       let asked = refused _ (Ok tt) (Err (refusal PackedLength 0)) (ne_eqb (length out) (32 * cpi) other) ∙ first in
       sym (if_no (not_packed out) (record { answer = Ok (named_bits cpi batch); out = packed_named cpi batch out }) (sym asked))
 
-  none-bad : {after : List ℕ} (bad : ℕ) → Named cpi batch out after bad → (bad == 0) ≡ named_bits cpi batch
+  pub none-bad : {after : List ℕ} (bad : ℕ) → Named cpi batch out after bad → (bad == 0) ≡ named_bits cpi batch
   none-bad bad n = go (ℕ_discrete bad 0)
     where
       go : Dec (bad ≡ 0) → (bad == 0) ≡ named_bits cpi batch

@@ -2,7 +2,7 @@
 -- Assumes nothing.
 use Rattle.std.specs.Prelude.{◌≡◌, ℕ, ◌+◌, ◌-◌, ◌*◌, ◌/◌, ◌%◌, ◌<◌, ◌≤◌, true, List, ◌++◌, length, take, drop, ◌≢◌, slice_index, refl}
 use Rattle.std.proofs.Math.Path.{sym, ap}
-use Rattle.std.proofs.Common.{ap₂, ◌∙◌, add-mul, mul_assoc, mul-le-mul_right, one-mul, mod-lt, div-add-mod', div-lt_iff_lt-mul, arith, length-append, length-drop, length-take-le, get_or-take, get_or-drop, get_or-append-add}
+use Rattle.std.proofs.Common.{ap₂, ◌∙◌, add-mul, mul_assoc, mul-le-mul_right, one-mul, mod-lt, div-add-mod', div-lt_iff_lt-mul, arith, length-drop, length-take-le, get_or-take, get_or-drop, get_or-append-add}
 use Rattle.std.proofs.Math.Decide.{dec_lt}
 use Rattle.std.proofs.Math.Arith.{digits_lt}
 use Rattle.std.proofs.Math.ListN.{get_or-append}
@@ -48,13 +48,6 @@ module _ (cpi : ℕ) (batch cycles : List ℕ) (h : Alike cpi batch cycles 2048)
       ∙ same-words (bit_in batch) (λ (x : ℕ). bit_in cycles (in_cycles cpi x)) (32 * cpi)
       (λ x l. ap (bit_in batch) (sym (div-add-mod' x cpi))
       ∙ sym (h (x / cpi) (x % cpi) ((div-lt_iff_lt-mul some).1 (omega arith)) (mod-lt x some)))
-
--- what the order is told to be
-pub into-batch : (order : Order) (cpi : ℕ) (words out : List ℕ) → order ≡ Batch → out ≡ by_batch cpi words → out ≡ put_into order cpi words
-into-batch order cpi words out q e = e ∙ ap (λ (o : Order). put_into o cpi words) (sym q)
-
-pub into-cycles : (order : Order) (cpi : ℕ) (words out : List ℕ) → order ≡ Cycles → out ≡ by_cycle cpi words → out ≡ put_into order cpi words
-into-cycles order cpi words out q e = e ∙ ap (λ (o : Order). put_into o cpi words) (sym q)
 
 -- one cycle's words are in both orders
 pub one-cycle : (order : Order) (cpi : ℕ) (words : List ℕ) → cpi ≡ 1 → length words ≡ 32 * cpi → Fit words → words ≡ put_into order cpi words
@@ -167,18 +160,6 @@ module _ (cpi q : ℕ) (s batch : List ℕ) (l : q < 32) (e : length batch ≡ 3
             ∙ get_or-append s rest 0 k (omega (arith, f));
       }
 
-  pub written-length : length (take (q * cpi) batch ++ (s ++ drop (q * cpi + cpi - q * cpi) (drop (q * cpi) batch))) ≡ 32 * cpi
-  written-length =
-      omega (
-        arith,
-        length-append front (s ++ rest),
-        front_length,
-        length-append s rest,
-        length-drop (q * cpi + cpi - q * cpi) (drop (q * cpi) batch),
-        length-drop (q * cpi) batch,
-        block-end cpi q l,
-      )
-
 -- word q of each cycle put or taken
 pub words-put : (cpi q : ℕ) (a before after : List ℕ) → q < 32 → length a ≡ cpi → Scattered a q (length a) before after
     → BlockInCycles cpi q a before after
@@ -198,6 +179,19 @@ pub record Going (cpi : ℕ) (batch cycles a b out : List ℕ) (q : ℕ) : Type 
   pub fit : Fit out
   pub alike : Alike cpi batch cycles (64 * q)
 
+-- of words that are read, and those that they are put into in the order that is asked for: which are in batch order, and which in cycle order
+abbrev pub batch_of : Order → List ℕ → List ℕ → List ℕ
+batch_of Batch words out = out
+batch_of Cycles words out = words
+
+abbrev pub cycles_of : Order → List ℕ → List ℕ → List ℕ
+cycles_of Batch words out = words
+cycles_of Cycles words out = out
+
+-- the first n columns of both
+abbrev pub AlikeIn : Order → ℕ → List ℕ → List ℕ → ℕ → Type 0
+AlikeIn order cpi words out n = Alike cpi (batch_of order words out) (cycles_of order words out) n
+
 pub no_block : (cpi : ℕ) (words batch cycles a b out : List ℕ) → BlocksIn cpi words a b out → Fit out → Going cpi batch cycles a b out 0
 no_block cpi words batch cycles a b out i f =
     record {
@@ -212,11 +206,16 @@ no_block cpi words batch cycles a b out i f =
 all_alike : (cpi : ℕ) (batch cycles a b out : List ℕ) (q : ℕ) → 32 ≤ q → Going cpi batch cycles a b out q → Alike cpi batch cycles 2048
 all_alike cpi batch cycles a b out q l g c d m n = g.alike c d (omega arith) n
 
-pub cycles-end : (cpi : ℕ) (batch a b out : List ℕ) (q : ℕ) → 32 ≤ q → Going cpi batch out a b out q → out ≡ by_cycle cpi batch
+cycles-end : (cpi : ℕ) (batch a b out : List ℕ) (q : ℕ) → 32 ≤ q → Going cpi batch out a b out q → out ≡ by_cycle cpi batch
 cycles-end cpi batch a b out q l g = are-cycles cpi batch out (all_alike cpi batch out a b out q l g) g.room g.fit
 
-pub batch-end : (cpi : ℕ) (cycles a b out : List ℕ) (q : ℕ) → 0 < cpi → 32 ≤ q → Going cpi out cycles a b out q → out ≡ by_batch cpi cycles
+batch-end : (cpi : ℕ) (cycles a b out : List ℕ) (q : ℕ) → 0 < cpi → 32 ≤ q → Going cpi out cycles a b out q → out ≡ by_batch cpi cycles
 batch-end cpi cycles a b out q some l g = are-batch cpi out cycles (all_alike cpi out cycles a b out q l g) some g.room g.fit
+
+pub blocks-end : (order : Order) (cpi : ℕ) (words a b out : List ℕ) (q : ℕ) → 0 < cpi → 32 ≤ q
+    → Going cpi (batch_of order words out) (cycles_of order words out) a b out q → out ≡ put_into order cpi words
+blocks-end Batch cpi words a b out q some l g = batch-end cpi words a b out q some l g
+blocks-end Cycles cpi words a b out q some l g = cycles-end cpi words a b out q l g
 
 -- ---- the lent blocks
 

@@ -1,14 +1,9 @@
 -- `judge::cycle::judge_cycles` meets its contract: what is left to judge from here on is what was to judge at all.
 -- Assumes nothing.
 use mathlib.Core.Path.{sym, ◌∙◌}
-use native.Mathlib.Nat.{sub-zero}
 use native.Mathlib.Omega.{arith}
-use borrow.Author.Rules.{rules}
 use Rattle.judge.specs.Laws.WordsWalk.{judged-stops, judged-goes, judged-ends}
 use Rattle.judge.proofs.cycle.judge_cycles.Goals as goal
-
-pub loop-cycle-init : goal.loop-cycle-init
-loop-cycle-init c = (search rules, rw sub-zero)
 
 pub returns-then-not-judge_cycle : goal.returns-then-not-judge_cycle
 returns-then-not-judge_cycle c =

@@ -7,6 +7,3 @@ use Rattle.judge.proofs.cycle.judge_cycles.Given as goal
 
 abbrev pub invariant-loop-cycle : goal.invariant-loop-cycle
 invariant-loop-cycle l = (l.cycle ≤ l.cpi) × (all_judged l.which l.words l.output (l.cpi - l.cycle) l.cycle ≡ all_judged l.which l.words l.output l.cpi 0)
-
-abbrev pub decreases-loop-cycle : goal.decreases-loop-cycle
-decreases-loop-cycle l = l.cpi - l.cycle

@@ -1,26 +1,20 @@
 -- `packed::many::four_columns` meets its contract: the cycles passed have their four columns below what stood there, and were seen.
 -- Assumes nothing.
-use Rattle.std.proofs.Common.{arith, rules}
-use Rattle.packed.specs.Laws.Columns.{first-turn, next-turn, last_turn}
+use Rattle.std.proofs.Common.{arith}
+use Rattle.packed.specs.Laws.Columns.{next-turn, last_turn}
 use Rattle.packed.proofs.many.four_columns.Goals as goal
 
-pub loop-d-init : goal.loop-d-init
-loop-d-init c = search (first-turn, rules)
-
-pub loop-d-preserved : goal.loop-d-preserved
-loop-d-preserved c =
-    let l = c.loop-d in let a = c.args in (
-      omega (arith, c.loop-d-test.true),
-      next-turn a.batch.now a.at a.s a.acc.now l.acc l.low l.high l.d l.i a.step
-          (omega (arith, l.invariant.1.lengths, c.loop-d-test.true)) c.requires.two l.invariant.1 c.put_four.ensures
+pub loop-word-preserved : goal.loop-word-preserved
+loop-word-preserved c =
+    let l = c.loop-word in let a = c.args in (
+      omega (arith, c.loop-word-test.true),
+      next-turn a.batch.now a.at a.s a.acc.now l.acc l.low l.high l.word-index l.i a.step
+          (omega (arith, l.invariant.1.lengths, c.loop-word-test.true)) c.requires.two l.invariant.1 c.put_four.ensures
           c.seen_four-low.ensures c.seen_four-high.ensures,
     )
 
-pub shape_of-acc : goal.shape_of-acc
-shape_of-acc c = c.loop-d.invariant.1.lengths
-
 pub returns : goal.returns
 returns c =
-    let l = c.loop-d in let a = c.args in
-    last_turn a.batch.now a.at a.s a.acc.now l.acc l.low l.high l.d l.i
-    (omega (arith, l.invariant.0, l.invariant.1.lengths, c.loop-d-test.false)) l.invariant.1
+    let l = c.loop-word in let a = c.args in
+    last_turn a.batch.now a.at a.s a.acc.now l.acc l.low l.high l.word-index l.i
+    (omega (arith, l.invariant.0, l.invariant.1.lengths, c.loop-word-test.false)) l.invariant.1

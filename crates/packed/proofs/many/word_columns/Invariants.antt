@@ -6,6 +6,3 @@ use Rattle.packed.proofs.many.word_columns.Given as goal
 
 abbrev pub invariant-loop-j : goal.invariant-loop-j
 invariant-loop-j l = (l.j ≤ 16) × WordTurn l.cpi l.batch l.k l.acc l.bad l.j
-
-abbrev pub decreases-loop-j : goal.decreases-loop-j
-decreases-loop-j l = l.j

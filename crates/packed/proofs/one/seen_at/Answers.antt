@@ -1,15 +1,11 @@
 -- `packed::one::seen_at` meets its contract: the or of what was passed tells of each of them.
 -- Assumes nothing.
-use Rattle.std.proofs.Common.{arith, rules}
-use Rattle.packed.specs.Laws.Seen.{seen_none}
+use Rattle.std.proofs.Common.{arith}
 use Rattle.packed.specs.Laws.One.{seen-turn, seen_all}
 use Rattle.packed.proofs.one.seen_at.Goals as goal
 
-pub loop-j-init : goal.loop-j-init
-loop-j-init c = (search rules, seen_none _ _)
-
 pub loop-j-preserved : goal.loop-j-preserved
-loop-j-preserved c = (omega arith, search seen-turn)
+loop-j-preserved g c = (omega arith, search seen-turn)
 
 pub returns : goal.returns
-returns c = search seen_all
+returns g c = search seen_all

@@ -4,4 +4,4 @@ use Rattle.packed.specs.Laws.One.{four-sums}
 use Rattle.packed.proofs.one.sixteen_at.Goals as goal
 
 pub returns : goal.returns
-returns c = search (four-sums 4)
+returns g c = search (four-sums 4)

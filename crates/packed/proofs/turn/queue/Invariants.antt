@@ -1,12 +1,8 @@
 -- `packed::turn::queue` meets its contract: the pairs passed stand side by side, exchanged.
 -- Assumes nothing.
-use Rattle.std.proofs.Common.{◌-◌}
 use Rattle.packed.specs.Turn.{halves, neighbours}
 use Rattle.packed.specs.Laws.Queue.{Pairs}
 use Rattle.packed.proofs.turn.queue.Given as goal
 
 abbrev pub invariant-loop-k : goal.invariant-loop-k
 invariant-loop-k l = Pairs l.j (halves l.h) neighbours l.h l.a l.b l.k
-
-abbrev pub decreases-loop-k : goal.decreases-loop-k
-decreases-loop-k l = l.h - l.k
