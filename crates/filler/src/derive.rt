@@ -134,12 +134,11 @@ fn picked(e: u64, i: usize, j: usize, v: bool) -> bool
 
 // Bits as a word, the first lowest.
 pub fn word_of_bits<const N: usize>(bits: [bool; N]) -> u64
-    requires { N < 64 }
-    ensures { (result ≡ pack (flags bits.entry)) × (result < 2 ^ N) }
+    ensures { N < 64 → (result ≡ pack (flags bits.entry)) × (result < 2 ^ N) }
 {
-    let mut w = 0;
+    let mut w: u64 = 0;
     for i in (0..N).rev() {
-        w = word_of(bits[i]) + 2 * w;
+        w = w.wrapping_mul(2).wrapping_add(word_of(bits[i]));
     }
     w
 }

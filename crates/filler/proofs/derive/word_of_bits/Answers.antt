@@ -1,7 +1,7 @@
 -- `filler::derive::word_of_bits` meets its contract: from the last bit down, w is the word of the bits passed.
 -- Assumes nothing.
-use Rattle.std.proofs.Common.{◌≡◌, ℕ, suc, ◌+◌, ◌-◌, ◌*◌, ◌^◌, ◌<◌, ◌≤◌, Bool, false, List, [], ◌∷◌, length, drop, get_or, sym, refl, ap, ◌∙◌, add-zero, arith}
-use Rattle.std.proofs.Math.Nat.{pow-suc}
+use Rattle.std.proofs.Common.{◌≡◌, ℕ, suc, ◌+◌, ◌-◌, ◌*◌, ◌%◌, ◌^◌, ◌<◌, ◌≤◌, Bool, false, List, [], ◌∷◌, length, drop, get_or, sym, refl, ap, ◌∙◌, add-zero, arith}
+use Rattle.std.proofs.Math.Nat.{pow-suc, pow-le-pow_right}
 use Rattle.std.proofs.lemmas.List.{at_drop_more}
 use Rattle.base.specs.Bits.{digit}
 use Rattle.base.specs.Fields.{pack, flags}
@@ -21,7 +21,13 @@ word_more bs i some l =
 
 pub loop-i-preserved : goal.loop-i-preserved
 loop-i-preserved g c =
-    let l = c.loop-i in let n = g.row.N in let p = c.word_of.ensures in
+    λ few. let l = c.loop-i in let n = g.row.N in let p = c.word_of.ensures in let q = l.invariant few in
     let more = word_more c.args.bits l.i c.loop-i-test.true (omega (arith, c.well_formed)) in
     let e : suc (n - l.i) ≡ n - (l.i - 1) = omega arith in
-    (cc, omega (arith, p.1, l.invariant.1, pow-suc 2 (n - l.i), ap (λ (k : ℕ). 2 ^ k) e))
+    let room : 2 ^ (n - l.i) ≤ 2 ^ 63 = pow-le-pow_right {n = 2} (omega arith) {i = n - l.i} {j = 63} (omega arith) in
+    let whole : (l.w * 2 % 2 ^ 64 + c.word_of.result) % 2 ^ 64 ≡ digit (get_or c.args.bits (l.i - 1) false) + 2 * l.w =
+        omega (arith, p.0, p.1, q.1) in
+    (
+      whole ∙ ap (λ (v : ℕ). digit (get_or c.args.bits (l.i - 1) false) + 2 * v) q.0 ∙ more,
+      omega (arith, whole, p.0, p.1, q.1, pow-suc 2 (n - l.i), ap (λ (k : ℕ). 2 ^ k) e),
+    )
