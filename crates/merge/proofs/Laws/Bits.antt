@@ -10,7 +10,7 @@ use Rattle.field.specs.Gf.{is_bit}
 use Rattle.layout.specs.Batch.{allowed, column_at, batch_words}
 use Rattle.layout.specs.Laws.Mapping.{witness-column, column_fits}
 use Rattle.layout.specs.Laws.Sizes.{allowed-range}
-use Rattle.verdict.specs.Bits.{above_one, bit_tested, not_bit}
+use Rattle.verdict.specs.Bits.{above_one, bit_tested}
 use Rattle.verdict.specs.Laws.BitTest.{all-bits-said, not-bit-named, Above, none, found, above}
 use Rattle.verdict.specs.declared.bits.NotBit.{NotBit}
 use Rattle.merge.specs.Merged.{merged}

@@ -26,8 +26,7 @@ loop-i-preserved g c =
     let e : suc (n - l.i) ≡ n - (l.i - 1) = omega arith in
     let room : 2 ^ (n - l.i) ≤ 2 ^ 63 = pow-le-pow_right {n = 2} (omega arith) {i = n - l.i} {j = 63} (omega arith) in
     let whole : (l.w * 2 % 2 ^ 64 + c.word_of.result) % 2 ^ 64 ≡ digit (get_or c.args.bits (l.i - 1) false) + 2 * l.w =
-        omega (arith, p.0, p.1, q.1) in
-    (
+    omega (arith, p.0, p.1, q.1) in (
       whole ∙ ap (λ (v : ℕ). digit (get_or c.args.bits (l.i - 1) false) + 2 * v) q.0 ∙ more,
       omega (arith, whole, p.0, p.1, q.1, pow-suc 2 (n - l.i), ap (λ (k : ℕ). 2 ^ k) e),
     )
