@@ -149,6 +149,7 @@ pub const ZE8: usize = 1126; // load, neither LD_WORD nor LD_HALF
 pub const USED: usize = 1127; // the first column that no row names
 
 // The widths above, in that order.
+#[tactic(auto, unfolding(crate::specs::Columns::field_widths))]
 pub fn field_widths() -> [usize; 5]
     ensures { result ≡ field_widths }
 {
@@ -156,6 +157,7 @@ pub fn field_widths() -> [usize; 5]
 }
 
 // Every column above, in that order.
+#[tactic(auto, unfolding(crate::specs::Columns::witness_layout))]
 pub fn witness_layout() -> [usize; 63]
     ensures { result ≡ witness_layout }
 {

@@ -55,6 +55,7 @@ pub fn is_allowed(cpi: usize) -> bool
 }
 
 // Questions 1 and 2, of the number of a batch's words.
+#[tactic(auto, unfolding(crate::specs::Batch::batch_asked))]
 pub fn ask_batch(cpi: usize, words: usize) -> Result<(), Refusal>
     ensures { result ≡ batch_asked cpi words }
 {
@@ -68,6 +69,7 @@ pub fn ask_batch(cpi: usize, words: usize) -> Result<(), Refusal>
 }
 
 // Question 5, of the number of words of the check's scratch: a multiple of 6, from 6 to 3,072.
+#[tactic(auto, unfolding(crate::specs::Batch::scratch_fits))]
 pub fn scratch_fits(words: usize) -> bool
     ensures { result ≡ scratch_fits words }
 {
@@ -80,6 +82,7 @@ pub fn default_cpi() -> usize
     DEFAULT_CPI
 }
 
+#[tactic(auto, unfolding(crate::specs::Batch::geometry_of))]
 pub fn geometry(cpi: usize) -> Result<InstanceGeometry, Refusal>
     ensures { result ≡ geometry_of cpi }
 {
@@ -97,6 +100,7 @@ pub fn geometry(cpi: usize) -> Result<InstanceGeometry, Refusal>
 }
 
 // The witness columns of the cycles stand interleaved, and the public columns after them, once for all cycles.
+#[tactic(auto, unfolding(crate::specs::Batch::column_at))]
 fn column_at(cpi: usize, column: usize, cycle: usize) -> usize
     requires { (allowed cpi ≡ true) × ((column < 4096) × (cycle < cpi)) }
     ensures { result ≡ column_at cpi column cycle }
@@ -109,6 +113,7 @@ fn column_at(cpi: usize, column: usize, cycle: usize) -> usize
 }
 
 // Questions 1, 14 and 15 with so many columns to choose from, and the batch column.
+#[tactic(auto, unfolding(crate::specs::Batch::mapped))]
 fn map_below(limit: usize, cpi: usize, column: usize, cycle: usize) -> Result<usize, Refusal>
     requires { limit ≤ 4096 }
     ensures { result ≡ mapped limit cpi column cycle }
@@ -141,6 +146,7 @@ pub fn map_z_col(cpi: usize, column: usize, cycle: usize) -> Result<usize, Refus
 
 // The way back: which column of which cycle stands at a batch column below one_col. Sizes are powers of two, so that a shift is the
 // quotient by cpi, and a mask the remainder.
+#[tactic(auto, unfolding(crate::specs::Batch::unmapped))]
 pub fn unmap_col(cpi: usize, batch_column: usize) -> Result<CycleColumn, Refusal>
     ensures { result ≡ unmapped cpi batch_column }
 {

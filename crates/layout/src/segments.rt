@@ -60,6 +60,7 @@ pub fn segment_lengths() -> [usize; 19]
 }
 
 // The name of the segment that has the column, and blanks where none has it: in a gap, and from the one column on.
+#[tactic(auto, unfolding(crate::specs::Segments::segment_name))]
 pub fn segment_name(column: usize) -> [u8; 9]
     ensures { result ≡ padded (segment_name column) }
 {

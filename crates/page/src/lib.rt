@@ -18,6 +18,7 @@ use circuit::Relation;
 use circuit::search::rows_a_cycle;
 use layout::{Question, Refusal};
 
+#[tactic(auto, unfolding(crate::specs::Pages::page_bytes, crate::specs::Pages::page_count))]
 fn bytes_of_lines(lines: usize) -> usize
     requires { lines ≤ 16384 }
     ensures { result ≡ page_bytes lines }
@@ -26,6 +27,7 @@ fn bytes_of_lines(lines: usize) -> usize
 }
 
 // How many bytes a caller lends for the pages of a row: questions 6 to 10 and 13.
+#[tactic(auto, unfolding(crate::specs::Pages::bytes_for))]
 pub fn page_bytes(listing: &[u32], relation: Relation, row: usize) -> Result<usize, Refusal>
     ensures { result ≡ bytes_for listing.now relation row }
 {
@@ -56,6 +58,7 @@ fn write_pages(
 }
 
 // Questions 6 to 10, 13, 16 and 15.
+#[tactic(auto, unfolding(crate::specs::Pages::laid_at))]
 fn lay_row(
     cpi: usize,
     listing: &[u32],
@@ -87,6 +90,7 @@ fn lay_row(
 }
 
 // Lays a row of a listing in a cycle of a batch out on pages: questions 1, 2, 6 to 10, 13, 16 and 15.
+#[tactic(auto, unfolding(crate::specs::Pages::laid_out))]
 pub fn lay_out(
     cpi: usize,
     listing: &[u32],

@@ -49,6 +49,7 @@ fn place(cpi: usize, at: usize) -> Result<Option<NotBit>, Refusal>
 }
 
 // Questions 1 and 2, and then the smallest batch column below one_col that is above 1, or none where all are bits.
+#[tactic(auto, unfolding(crate::specs::Bits::bit_tested))]
 pub fn bit_test(cpi: usize, batch: &[u64]) -> Result<Option<NotBit>, Refusal>
     ensures { result ≡ bit_tested cpi batch.now }
 {

@@ -65,6 +65,7 @@ pub fn clear(s: &mut [u64])
 }
 
 // Questions 1, 2, 5, and 6 to 10.
+#[tactic(auto, unfolding(crate::specs::Check::asked))]
 fn ask(cpi: usize, listing: &[u32], words: usize, room: usize) -> Result<(), Refusal>
     ensures { result ≡ asked cpi listing.now words room }
 {
@@ -77,6 +78,7 @@ fn ask(cpi: usize, listing: &[u32], words: usize, room: usize) -> Result<(), Ref
 
 // The check of a batch of cpi cycles against a listing. No word of the lent scratch is read; a verdict leaves it zero, and a refusal as it
 // came.
+#[tactic(auto, unfolding(crate::specs::Check::checked))]
 pub fn check_row(
     cpi: usize,
     listing: &[u32],
@@ -109,6 +111,7 @@ fn walk_known(which: Known, cpi: usize, batch: &[u64]) -> Verdict
 }
 
 // The check against a listing that is named, which is known to be in order: questions 1 and 2 are all there is to ask.
+#[tactic(auto, unfolding(crate::specs::Check::known_checked))]
 pub fn check_known(which: Known, cpi: usize, batch: &[u64]) -> Result<Verdict, Refusal>
     ensures { result ≡ known_checked which cpi batch.now }
 {
@@ -117,6 +120,7 @@ pub fn check_known(which: Known, cpi: usize, batch: &[u64]) -> Result<Verdict, R
 }
 
 // The sums of the row that was found, where the cycle is one of the batch.
+#[tactic(auto, unfolding(crate::specs::Apply::applied_at))]
 fn apply_row(
     cpi: usize,
     listing: &[u32],
@@ -158,6 +162,7 @@ fn apply_listed(
 }
 
 // The sums of one row of the listing in one cycle: questions 1, 2, 6 to 10, 13 and 15.
+#[tactic(auto, unfolding(crate::specs::Apply::applied))]
 pub fn apply(
     cpi: usize,
     listing: &[u32],

@@ -32,6 +32,7 @@ pub struct Tested {
 }
 
 // The mapping with no question asked: the loops below are the inside of the check.
+#[tactic(auto, unfolding(layout::specs::Batch::column_at))]
 fn column_at(cpi: usize, column: usize, cycle: usize) -> usize
     requires { (cpi ≤ 256) × ((column < 4096) × (cycle < cpi)) }
     ensures { (result ≡ column_at cpi column cycle) × (result < 4096 * cpi) }
@@ -43,7 +44,10 @@ fn column_at(cpi: usize, column: usize, cycle: usize) -> usize
     }
 }
 
+// Hot, so the next four take cpi, batch and cycle, with the fact `Cycle`, as parameters: a struct lent by reference was never timed here.
+
 // A term's coefficient times its column. A coefficient zero reads no column.
+#[tactic(auto, unfolding(crate::specs::Row::cycle_of))]
 fn term(cpi: usize, batch: &[u64], cycle: usize, w: u32) -> Gf128
     requires { Cycle cpi cycle batch.now }
     ensures { result ≡ times (coefficient_of w) (cycle_of cpi batch.now cycle (w % 2 ^ 12)) }

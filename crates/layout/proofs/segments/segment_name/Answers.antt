@@ -1,13 +1,9 @@
 -- `layout::segments::segment_name` meets its contract: at every turn, the name among the segments from here on is the column's.
 -- Assumes nothing.
 use mathlib.Core.Path.{refl}
-use Rattle.layout.specs.Segments.{segments, segment_name}
+use Rattle.layout.specs.Segments.{segments}
 use Rattle.layout.proofs.Table.{stops, goes, ends}
 use Rattle.layout.proofs.segments.segment_name.Goals as goal
-
-pub loop-s-init : goal.loop-s-init
-unfolding segment_name
-loop-s-init c = refl
 
 pub returns-then-s-column : goal.returns-then-s-column
 unfolding segments
