@@ -63,6 +63,7 @@ fn pack(cpi: usize, batch: &[u64], out: &mut [u64]) -> u64
 }
 
 // Questions 1, 2 and 18.
+#[tactic(auto, unfolding(crate::specs::Packed::pack_asked))]
 fn ask(cpi: usize, words: usize, room: usize) -> Result<(), Refusal>
     ensures { result ≡ pack_asked cpi words room }
 {
@@ -75,6 +76,7 @@ fn ask(cpi: usize, words: usize, room: usize) -> Result<(), Refusal>
 
 // The words of every cycle that hold columns which rows name, in cycle order: questions 1, 2 and 18. The answer is whether these columns
 // are bits.
+#[tactic(auto, unfolding(crate::specs::Packed::named_called))]
 pub fn pack_named(cpi: usize, batch: &[u64], out: &mut [u64]) -> Result<bool, Refusal>
     ensures { ◌≡◌ {A = NamedCalled} (record { answer = result; out = out.new }) (named_called cpi batch.now out.old) }
 {
@@ -83,6 +85,7 @@ pub fn pack_named(cpi: usize, batch: &[u64], out: &mut [u64]) -> Result<bool, Re
 }
 
 // The same of a batch of one cycle, whose shape stands apart: who has but one cycle need not carry the others.
+#[tactic(auto, unfolding(crate::specs::Packed::named_called))]
 pub fn pack_row(batch: &[u64], out: &mut [u64]) -> Result<bool, Refusal>
     ensures { ◌≡◌ {A = NamedCalled} (record { answer = result; out = out.new }) (named_called 1 batch.now out.old) }
 {

@@ -11,10 +11,6 @@ pub pack-requires : goal.pack-requires
 unfolding named_called
 pack-requires c = search (asked-yes-in, told, c.in_ok-ask.was)
 
-pub returns-in_err-ask : goal.returns-in_err-ask
-unfolding named_called
-returns-in_err-ask c = search (rules, asking, c.in_err-ask.was)
-
 pub returns : goal.returns
 unfolding named_called
 returns c = search (called-named, asked-yes-in, told, c.in_ok-ask.was)

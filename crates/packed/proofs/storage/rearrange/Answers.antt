@@ -8,9 +8,3 @@ use Rattle.packed.proofs.storage.rearrange.Goals as goal
 
 pub put_into-requires : goal.put_into-requires
 put_into-requires c = search (order-in, told, c.in_ok-ask_order.was)
-
-pub returns-in_err-ask_order : goal.returns-in_err-ask_order
-returns-in_err-ask_order c = search (rules, called-no, told, c.in_err-ask_order.was)
-
-pub returns : goal.returns
-returns c = search (called-yes, told, c.in_ok-ask_order.was)

@@ -9,8 +9,5 @@ use Rattle.packed.proofs.storage.unpack.Goals as goal
 pub lay_words-requires : goal.lay_words-requires
 lay_words-requires c = unpack-in _ _ _ (sym c.ask.ensures ∙ c.in_ok-ask.was)
 
-pub returns-in_err-ask : goal.returns-in_err-ask
-returns-in_err-ask c = search (rules, unpack-none, told, c.in_err-ask.was)
-
 pub returns : goal.returns
 returns c = search (unpack-yes, told, c.in_ok-ask.was)
