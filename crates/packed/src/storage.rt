@@ -35,6 +35,7 @@ fn hand_in<const N: usize>(order: Order, cpi: usize, batch: &[u64], out: &mut [u
     hand_over(order, cpi, batch, &mut made[..32 * cpi], out)
 }
 
+#[tactic(auto, using(crate::proofs::Rules::sizes))]
 fn hand(order: Order, cpi: usize, batch: &[u64], out: &mut [u64]) -> bool
     requires { NamedIn cpi batch.now out.old }
     ensures { Handed order cpi batch.now out.old out.new result }
@@ -46,6 +47,7 @@ fn hand(order: Order, cpi: usize, batch: &[u64], out: &mut [u64]) -> bool
 }
 
 // Questions 1, 2, 18 and 17.
+#[tactic(auto, using(crate::proofs::Rules::asked), unfolding(crate::specs::Storage::store_asked))]
 fn store(order: Order, cpi: usize, batch: &[u64], out: &mut [u64]) -> Result<(), Refusal>
     ensures { ◌≡◌ {A = Called} (record { answer = result; batch = out.new })
         (store_called order cpi batch.now out.old) }
@@ -76,7 +78,7 @@ pub fn pack_cycles(cpi: usize, batch: &[u64], out: &mut [u64]) -> Result<(), Ref
 }
 
 // Words in batch order, back into the columns below one_col of a batch; its public columns stay. Questions 1, 2 and 18.
-#[tactic(auto, unfolding(crate::specs::Storage::unpack_called))]
+#[tactic(auto, using(crate::proofs::Rules::unpacked), unfolding(crate::specs::Storage::unpack_called))]
 pub fn unpack(cpi: usize, words: &[u64], batch: &mut [u64]) -> Result<(), Refusal>
     ensures { ◌≡◌ {A = Called} (record { answer = result; batch = batch.new })
         (unpack_called cpi words.now batch.old) }
@@ -87,7 +89,7 @@ pub fn unpack(cpi: usize, words: &[u64], batch: &mut [u64]) -> Result<(), Refusa
 }
 
 // Questions 1 and 18, of the words that are read and of those that are written.
-#[tactic(auto, unfolding(crate::specs::Storage::order_asked))]
+#[tactic(auto, using(crate::proofs::Rules::sizes), unfolding(crate::specs::Storage::order_asked))]
 fn ask_order(cpi: usize, read: usize, written: usize) -> Result<(), Refusal>
     ensures { result ≡ order_asked cpi read written }
 {
@@ -103,6 +105,7 @@ fn ask_order(cpi: usize, read: usize, written: usize) -> Result<(), Refusal>
     Ok(())
 }
 
+#[tactic(auto, using(crate::proofs::Rules::ordered))]
 fn rearrange(order: Order, cpi: usize, words: &[u64], out: &mut [u64]) -> Result<(), Refusal>
     ensures { ◌≡◌ {A = Called} (record { answer = result; batch = out.new })
         (rearrange_called order cpi words.now out.old) }
