@@ -37,79 +37,79 @@ fn same_branches(w: u64, v: u64) -> bool
     w % 0x80_0000_0000 == v % 0x80_0000_0000
 }
 
-// Word k of the cycle whose words start at `at`.
-fn word_at(words: &[u64], at: usize, k: usize) -> u64
-    requires { (k < 32) × (at + 32 ≤ length words.now) }
-    ensures { result ≡ words_from words.now at k }
-{
-    words[at + k]
+// The 32 words of a cycle, which start at `at`.
+#[derive(Clone, Copy)]
+pub struct CycleWords<'a> {
+    pub words: &'a [u64],
+    pub at: usize,
+    pub ghost inside: { at + 32 ≤ length words.now },
 }
 
-// CARRY_OFF, SHIFT_SRC, STORE_OLD and STORE_SRC.
-fn low_written(words: &[u64], at: usize, g: GivenWords, d: DerivedWords) -> bool
-    requires { at + 32 ≤ length words.now }
-    ensures { result ≡ all_written_in (words_from words.now at) (low_blocks g d) }
-{
-    same_word(word_at(words, at, 7), d.carry)
-        & (same_word(word_at(words, at, 9), g.rs1)
-            & (same_word(word_at(words, at, 10), g.load)
-                & same_word(word_at(words, at, 11), g.rs2)))
-}
-
-// HALT and TAKEN.
-fn flags_written(words: &[u64], at: usize, d: DerivedWords) -> bool
-    requires { at + 32 ≤ length words.now }
-    ensures { result ≡ all_written_in (words_from words.now at) (flag_blocks d) }
-{
-    let w = word_at(words, at, 12);
-    same_bit(w, 5, d.branches >> 6) & same_bit(w, 11, taken_bit(d.branches))
-}
-
-// EQA to WNL, ZERO, and OPSYS to ZE8.
-fn high_written(words: &[u64], at: usize, d: DerivedWords) -> bool
-    requires { at + 32 ≤ length words.now }
-    ensures { result ≡ all_written_in (words_from words.now at) (high_blocks d) }
-{
-    same_lanes(word_at(words, at, 14), d.lanes)
-        & (same_word(word_at(words, at, 16), d.zeros)
-            & same_branches(word_at(words, at, 17), d.branches))
-}
-
-// Every derived column.
-fn derived_written(words: &[u64], at: usize, g: GivenWords, d: DerivedWords) -> bool
-    requires { at + 32 ≤ length words.now }
-    ensures { result ≡ all_written_in (words_from words.now at) (blocks g d) }
-{
-    low_written(words, at, g, d) & (flags_written(words, at, d) & high_written(words, at, d))
-}
-
-// What the derived columns depend on.
-fn read_given(words: &[u64], at: usize) -> GivenWords
-    requires { at + 32 ≤ length words.now }
-    ensures { result ≡ given_in (words_from words.now at) }
-{
-    GivenWords {
-        rs1: word_at(words, at, 0),
-        rs2: word_at(words, at, 1),
-        load: word_at(words, at, 3),
-        t1: word_at(words, at, 5),
-        t2: word_at(words, at, 6),
-        alu: word_at(words, at, 8),
-        flags: word_at(words, at, 12),
-        fetch: word_at(words, at, 13),
+impl CycleWords<'_> {
+    fn word(self, k: usize) -> u64
+        requires { k < 32 }
+        ensures { result ≡ words_from self.entry.words.now self.entry.at k }
+    {
+        self.words[self.at + k]
     }
-}
 
-// The conditions of a known listing, and whether every derived column holds what the filler would write.
-pub fn judge_cycle(which: Known, words: &[u64], at: usize, output: Gf128) -> bool
-    requires { at + 32 ≤ length words.now }
-    ensures { result ≡ judged_words which (words_from words.now at) output }
-{
-    let g = read_given(words, at);
-    let rd = word_at(words, at, 2);
-    let w = step_words(g, rd, word_at(words, at, 4));
-    let met = meets_all(which, w, g.flags, output);
-    met & derived_written(words, at, g, derive(g))
+    // CARRY_OFF, SHIFT_SRC, STORE_OLD and STORE_SRC.
+    fn low_written(self, g: GivenWords, d: DerivedWords) -> bool
+        ensures { result ≡ all_written_in (words_from self.entry.words.now self.entry.at) (low_blocks g d) }
+    {
+        same_word(self.word(7), d.carry)
+            & (same_word(self.word(9), g.rs1)
+                & (same_word(self.word(10), g.load) & same_word(self.word(11), g.rs2)))
+    }
+
+    // HALT and TAKEN.
+    fn flags_written(self, d: DerivedWords) -> bool
+        ensures { result ≡ all_written_in (words_from self.entry.words.now self.entry.at) (flag_blocks d) }
+    {
+        let w = self.word(12);
+        same_bit(w, 5, d.branches >> 6) & same_bit(w, 11, taken_bit(d.branches))
+    }
+
+    // EQA to WNL, ZERO, and OPSYS to ZE8.
+    fn high_written(self, d: DerivedWords) -> bool
+        ensures { result ≡ all_written_in (words_from self.entry.words.now self.entry.at) (high_blocks d) }
+    {
+        same_lanes(self.word(14), d.lanes)
+            & (same_word(self.word(16), d.zeros) & same_branches(self.word(17), d.branches))
+    }
+
+    // Every derived column.
+    fn derived_written(self, g: GivenWords, d: DerivedWords) -> bool
+        ensures { result ≡ all_written_in (words_from self.entry.words.now self.entry.at) (blocks g d) }
+    {
+        self.low_written(g, d) & (self.flags_written(d) & self.high_written(d))
+    }
+
+    // What the derived columns depend on.
+    fn given(self) -> GivenWords
+        ensures { result ≡ given_in (words_from self.entry.words.now self.entry.at) }
+    {
+        GivenWords {
+            rs1: self.word(0),
+            rs2: self.word(1),
+            load: self.word(3),
+            t1: self.word(5),
+            t2: self.word(6),
+            alu: self.word(8),
+            flags: self.word(12),
+            fetch: self.word(13),
+        }
+    }
+
+    // The conditions of a known listing, and whether every derived column holds what the filler would write.
+    pub fn judge(self, which: Known, output: Gf128) -> bool
+        ensures { result ≡ judged_words which (words_from self.entry.words.now self.entry.at) output }
+    {
+        let g = self.given();
+        let w = step_words(g, self.word(2), self.word(4));
+        let met = meets_all(which, w, g.flags, output);
+        met & self.derived_written(g, derive(g))
+    }
 }
 
 // Cycle after cycle, 32 words each.
@@ -117,8 +117,9 @@ pub fn judge_cycles(which: Known, cpi: usize, words: &[u64], output: Gf128) -> b
     requires { (cpi ≤ 256) × (length words.now ≡ 32 * cpi) }
     ensures { result ≡ all_judged which words.now output cpi 0 }
 {
-    for cycle in 0..cpi {
-        if !judge_cycle(which, words, 32 * cycle, output) {
+    for d in 0..cpi {
+        let cycle = CycleWords { words, at: 32 * d };
+        if !cycle.judge(which, output) {
             return false;
         }
     }

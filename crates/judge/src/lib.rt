@@ -12,7 +12,7 @@ ghost use Rattle.verdict.specs.Check.{Checked, after, checked, known_checked};
 ghost use Rattle.judge.specs.FillCheck.{Promised};
 ghost use Rattle.judge.specs.Words.{judged_words};
 
-use crate::cycle::judge_cycle;
+use crate::cycle::CycleWords;
 use crate::short::{short_row, short_yes};
 use circuit::Relation;
 use field::Gf128;
@@ -24,7 +24,7 @@ use verdict::{Counts, Verdict};
 pub fn judge_words(which: Known, words: &[u64; 32], output: Gf128) -> bool
     ensures { result ≡ judged_words which (λ k. get_or words.now k 0) output }
 {
-    judge_cycle(which, words, 0, output)
+    CycleWords { words, at: 0 }.judge(which, output)
 }
 
 // The rows of one relation, in so many cycles.

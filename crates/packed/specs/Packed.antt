@@ -1,7 +1,7 @@
 -- Packed words: 64 columns of a cycle a word, the lowest column in the lowest bit. In cycle order, column c of cycle d is bit c % 64 of
 -- word 32 · d + c / 64.
 -- Assumes nothing.
-use Rattle.std.specs.Prelude.{ℕ, zero, suc, ◌+◌, ◌*◌, ◌/◌, ◌%◌, ◌^◌, Bool, true, cond, not, ◌&&◌, List, length, ◌==◌, nat_lt, slice_index, Err, Ok, false}
+use Rattle.std.specs.Prelude.{ℕ, zero, suc, ◌+◌, ◌*◌, ◌/◌, ◌%◌, ◌^◌, Bool, true, cond, not, ◌&&◌, List, length, ◌==◌, nat_lt, slice_index, Err, Ok}
 use Rattle.base.specs.Lists.{from}
 use Rattle.field.specs.Gf.{is_bit}
 use Rattle.layout.specs.declared.questions.Refusal.{Refusal}

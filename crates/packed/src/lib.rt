@@ -19,6 +19,7 @@ ghost use Rattle.packed.specs.Named.{Named, NamedIn};
 use layout::{Question, Refusal};
 
 // Words 0 to 14, 16 and 17. The answer is 0 exactly where their columns are bits.
+#[tactic(auto, using(crate::proofs::Rules::ranges))]
 fn pack_one(batch: &[u64], out: &mut [u64]) -> u64
     requires { NamedIn 1 batch.now out.old }
     ensures { Named 1 batch.now out.old out.new result }
@@ -30,6 +31,7 @@ fn pack_one(batch: &[u64], out: &mut [u64]) -> u64
 
 // How far apart the words of two cycles stand comes from the length and not as the number 2: knowing it, the compiler makes
 // vectors of the loop over cycles, and they are slower.
+#[tactic(auto, using(crate::proofs::Rules::ranges))]
 fn pack_many(cpi: usize, batch: &[u64], acc: &mut [u64], out: &mut [u64]) -> u64
     requires { NamedIn cpi batch.now out.old × (length acc.old ≡ cpi) }
     ensures { Named cpi batch.now out.old out.new result }
@@ -49,6 +51,7 @@ fn pack_in<const N: usize>(cpi: usize, batch: &[u64], out: &mut [u64]) -> u64
     pack_many(cpi, batch, &mut acc[..cpi], out)
 }
 
+#[tactic(auto, using(crate::proofs::Rules::sizes))]
 fn pack(cpi: usize, batch: &[u64], out: &mut [u64]) -> u64
     requires { NamedIn cpi batch.now out.old }
     ensures { Named cpi batch.now out.old out.new result }
@@ -63,6 +66,7 @@ fn pack(cpi: usize, batch: &[u64], out: &mut [u64]) -> u64
 }
 
 // Questions 1, 2 and 18.
+#[tactic(auto, using(crate::proofs::Rules::sizes), unfolding(crate::specs::Packed::pack_asked))]
 fn ask(cpi: usize, words: usize, room: usize) -> Result<(), Refusal>
     ensures { result ≡ pack_asked cpi words room }
 {
@@ -75,6 +79,7 @@ fn ask(cpi: usize, words: usize, room: usize) -> Result<(), Refusal>
 
 // The words of every cycle that hold columns which rows name, in cycle order: questions 1, 2 and 18. The answer is whether these columns
 // are bits.
+#[tactic(auto, using(crate::proofs::Rules::asked), unfolding(crate::specs::Packed::named_called))]
 pub fn pack_named(cpi: usize, batch: &[u64], out: &mut [u64]) -> Result<bool, Refusal>
     ensures { ◌≡◌ {A = NamedCalled} (record { answer = result; out = out.new }) (named_called cpi batch.now out.old) }
 {
@@ -83,6 +88,7 @@ pub fn pack_named(cpi: usize, batch: &[u64], out: &mut [u64]) -> Result<bool, Re
 }
 
 // The same of a batch of one cycle, whose shape stands apart: who has but one cycle need not carry the others.
+#[tactic(auto, using(crate::proofs::Rules::asked), unfolding(crate::specs::Packed::named_called))]
 pub fn pack_row(batch: &[u64], out: &mut [u64]) -> Result<bool, Refusal>
     ensures { ◌≡◌ {A = NamedCalled} (record { answer = result; out = out.new }) (named_called 1 batch.now out.old) }
 {

@@ -35,6 +35,7 @@ fn hand_in<const N: usize>(order: Order, cpi: usize, batch: &[u64], out: &mut [u
     hand_over(order, cpi, batch, &mut made[..32 * cpi], out)
 }
 
+#[tactic(auto, using(crate::proofs::Rules::sizes))]
 fn hand(order: Order, cpi: usize, batch: &[u64], out: &mut [u64]) -> bool
     requires { NamedIn cpi batch.now out.old }
     ensures { Handed order cpi batch.now out.old out.new result }
@@ -46,6 +47,7 @@ fn hand(order: Order, cpi: usize, batch: &[u64], out: &mut [u64]) -> bool
 }
 
 // Questions 1, 2, 18 and 17.
+#[tactic(auto, using(crate::proofs::Rules::asked), unfolding(crate::specs::Storage::store_asked))]
 fn store(order: Order, cpi: usize, batch: &[u64], out: &mut [u64]) -> Result<(), Refusal>
     ensures { ◌≡◌ {A = Called} (record { answer = result; batch = out.new })
         (store_called order cpi batch.now out.old) }
@@ -58,6 +60,7 @@ fn store(order: Order, cpi: usize, batch: &[u64], out: &mut [u64]) -> Result<(),
 }
 
 // A batch in batch order: bit j of word k is batch column 64 k + j.
+#[tactic(auto, unfolding(crate::specs::Storage::pack_called))]
 pub fn pack(cpi: usize, batch: &[u64], out: &mut [u64]) -> Result<(), Refusal>
     ensures { ◌≡◌ {A = Called} (record { answer = result; batch = out.new })
         (pack_called cpi batch.now out.old) }
@@ -66,6 +69,7 @@ pub fn pack(cpi: usize, batch: &[u64], out: &mut [u64]) -> Result<(), Refusal>
 }
 
 // A batch straight in cycle order: column c of cycle d is bit 2048 d + c.
+#[tactic(auto, unfolding(crate::specs::Storage::pack_cycles_called))]
 pub fn pack_cycles(cpi: usize, batch: &[u64], out: &mut [u64]) -> Result<(), Refusal>
     ensures { ◌≡◌ {A = Called} (record { answer = result; batch = out.new })
         (pack_cycles_called cpi batch.now out.old) }
@@ -74,6 +78,7 @@ pub fn pack_cycles(cpi: usize, batch: &[u64], out: &mut [u64]) -> Result<(), Ref
 }
 
 // Words in batch order, back into the columns below one_col of a batch; its public columns stay. Questions 1, 2 and 18.
+#[tactic(auto, using(crate::proofs::Rules::unpacked), unfolding(crate::specs::Storage::unpack_called))]
 pub fn unpack(cpi: usize, words: &[u64], batch: &mut [u64]) -> Result<(), Refusal>
     ensures { ◌≡◌ {A = Called} (record { answer = result; batch = batch.new })
         (unpack_called cpi words.now batch.old) }
@@ -84,6 +89,7 @@ pub fn unpack(cpi: usize, words: &[u64], batch: &mut [u64]) -> Result<(), Refusa
 }
 
 // Questions 1 and 18, of the words that are read and of those that are written.
+#[tactic(auto, using(crate::proofs::Rules::sizes), unfolding(crate::specs::Storage::order_asked))]
 fn ask_order(cpi: usize, read: usize, written: usize) -> Result<(), Refusal>
     ensures { result ≡ order_asked cpi read written }
 {
@@ -99,6 +105,7 @@ fn ask_order(cpi: usize, read: usize, written: usize) -> Result<(), Refusal>
     Ok(())
 }
 
+#[tactic(auto, using(crate::proofs::Rules::ordered))]
 fn rearrange(order: Order, cpi: usize, words: &[u64], out: &mut [u64]) -> Result<(), Refusal>
     ensures { ◌≡◌ {A = Called} (record { answer = result; batch = out.new })
         (rearrange_called order cpi words.now out.old) }
@@ -109,6 +116,7 @@ fn rearrange(order: Order, cpi: usize, words: &[u64], out: &mut [u64]) -> Result
 }
 
 // From batch order into cycle order.
+#[tactic(auto, unfolding(crate::specs::Storage::to_cycles_called))]
 pub fn to_cycles(cpi: usize, words: &[u64], out: &mut [u64]) -> Result<(), Refusal>
     ensures { ◌≡◌ {A = Called} (record { answer = result; batch = out.new })
         (to_cycles_called cpi words.now out.old) }
@@ -117,6 +125,7 @@ pub fn to_cycles(cpi: usize, words: &[u64], out: &mut [u64]) -> Result<(), Refus
 }
 
 // From cycle order into batch order.
+#[tactic(auto, unfolding(crate::specs::Storage::to_batch_called))]
 pub fn to_batch(cpi: usize, words: &[u64], out: &mut [u64]) -> Result<(), Refusal>
     ensures { ◌≡◌ {A = Called} (record { answer = result; batch = out.new })
         (to_batch_called cpi words.now out.old) }

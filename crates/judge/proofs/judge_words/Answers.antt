@@ -5,4 +5,4 @@ use Rattle.judge.proofs.judge_words.Goals as goal
 
 pub returns : goal.returns
 unfolding judged_words
-returns c = c.judge_cycle.ensures
+returns c = c.judge.ensures

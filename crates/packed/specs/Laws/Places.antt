@@ -5,7 +5,7 @@ use Rattle.std.proofs.Math.Path.{sym, ap, ap₂}
 use Rattle.std.proofs.Common.{◌∙◌, mod-lt, div-lt_iff_lt-mul, lt-ltb}
 use native.Mathlib.Omega.{arith}
 use Rattle.base.specs.Laws.Tests.{passed}
-use Rattle.layout.specs.Batch.{allowed, column_at, mapped, unmapped, cycle_column}
+use Rattle.layout.specs.Batch.{allowed, column_at, mapped, unmapped}
 use Rattle.layout.specs.Laws.Mapping.{column-below, back-of-mapped, mapped-of-back}
 use Rattle.layout.specs.Laws.Sizes.{allowed-range}
 use Rattle.packed.specs.Storage.{in_batch, in_cycles}

@@ -5,5 +5,5 @@ use Prim.Native.Nat.{◌-◌, ◌≤◌}
 use Rattle.judge.specs.Words.{all_judged}
 use Rattle.judge.proofs.cycle.judge_cycles.Given as goal
 
-abbrev pub invariant-loop-cycle : goal.invariant-loop-cycle
-invariant-loop-cycle l = (l.cycle ≤ l.cpi) × (all_judged l.which l.words l.output (l.cpi - l.cycle) l.cycle ≡ all_judged l.which l.words l.output l.cpi 0)
+abbrev pub invariant-loop-d : goal.invariant-loop-d
+invariant-loop-d l = (l.d ≤ l.cpi) × (all_judged l.which l.words l.output (l.cpi - l.d) l.d ≡ all_judged l.which l.words l.output l.cpi 0)

@@ -1,7 +1,0 @@
--- `judge::cycle::judge_cycle` meets its contract: the conditions and the derived words are those of the words that were read.
--- Assumes nothing.
-use Rattle.judge.specs.Laws.WordsSame.{judged-from}
-use Rattle.judge.proofs.cycle.judge_cycle.Goals as goal
-
-pub returns : goal.returns
-returns c = search judged-from
