@@ -14,7 +14,6 @@ use Rattle.page.specs.Pages.{pages, sides_at}
 use Rattle.cellprism.specs.Bytes.{row_of}
 use Rattle.cellprism.specs.Answer.{row_checked}
 use Rattle.layout.specs.Questions.{Answer}
-use Rattle.circuit.specs.Found.{place_at}
 use Rattle.circuit.specs.declared.search.Place.{Place}
 use Rattle.verdict.specs.declared.Verdict.{Verdict}
 

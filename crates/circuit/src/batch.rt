@@ -8,7 +8,8 @@ use crate::search::rows_a_cycle;
 use crate::{Coefficient, Relation, Side, Word, words};
 use layout::{Question, Refusal};
 
-// What a word of the listing stands for in a cycle of a batch: the mark of a batch row, or a term on a batch column.
+// What a word of the listing stands for in a cycle of a batch: the mark of a batch row, or a term on a batch column. It is no `Word`, so
+// that no row or column of a batch is taken for a cycle's.
 #[derive(Clone, Copy)]
 pub enum BatchWord {
     Row {

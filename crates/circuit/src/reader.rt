@@ -43,7 +43,8 @@ pub struct ListingReader<'a> {
     pub position: usize,
 }
 
-// What questions 6 to 10 came to, and the reader, which has no words where they refused.
+// What questions 6 to 10 came to, and the reader, which has no words where they refused: `OpensTo` speaks of both, so the reader stands
+// beside the answer and not in it.
 #[derive(Clone, Copy)]
 pub struct Opened<'a> {
     pub asked: Result<(), Refusal>,

@@ -1,4 +1,5 @@
-// The house format: what a word of a listing stands for.
+// The house format: what a word of a listing stands for. Each reading keeps the name under which docs/API.md promises it; a `From` beside
+// it would be a second way to the same.
 ghost use Rattle.std.specs.Prelude.{◌≡◌};
 ghost use Rattle.circuit.specs.Words.{side_kind, side_of, clean_of, relation_of, coefficient_of, word_of};
 

@@ -17,8 +17,6 @@ use Rattle.circuit.specs.declared.batch.BatchWord.{BatchWord}
 use Rattle.circuit.specs.declared.batch.BatchWord.TheVariants.{Row, Term}
 use Rattle.circuit.specs.Words.{side_kind, relation_of, coefficient_of, clean_of, word_of as meaningOf}
 use Rattle.layout.specs.Questions.{number_of as question_number, Answer}
-use Rattle.layout.specs.Batch.{cycle_column}
-use Rattle.circuit.specs.Batched.{cycle_row}
 use Rattle.layout.specs.declared.CycleColumn.{CycleColumn}
 use Rattle.circuit.specs.declared.batch.CycleRow.{CycleRow}
 

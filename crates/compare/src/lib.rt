@@ -1,5 +1,5 @@
 // What the comparison with the original calls from Rust: the product's own functions behind C names, on numbers alone. Not part of
-// the product's C boundary.
+// the product's C boundary. Those that differ in an operation alone stay apart, since C calls each by its name.
 #![tactic(auto)]
 
 pub mod check;

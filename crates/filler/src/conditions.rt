@@ -30,7 +30,8 @@ pub struct StepWords {
 }
 
 // The flags that gates are made of, the others by their columns' names, and what stands behind them: OFF of three bits and the RAM
-// address of eight.
+// address of eight. That `off` is below 8 is asked where it is used: a ghost fact here would have to be given in each definition of specs/
+// that writes this record.
 #[derive(Clone, Copy)]
 struct StepFlags {
     gates: Flags,
@@ -225,7 +226,8 @@ fn unmet_in(batch: &[u64], cpi: usize, cycle: usize) -> Option<usize>
     first_false(conditions(w, f, element(batch, ONE_COL * cpi + 1)))
 }
 
-// Questions 1, 2, 11, 12 and 15, and then the conditions in their order.
+// Questions 1, 2, 11, 12 and 15, and then the conditions in their order. The number is document 01's, of which `names-first` speaks, and
+// no enum.
 #[tactic(auto, unfolding(crate::specs::Met::step_answer))]
 pub fn first_unmet(cpi: usize, batch: &[u64], cycle: usize) -> Result<Option<usize>, Refusal>
     ensures { result ≡ step_answer cpi batch.now cycle }

@@ -36,7 +36,7 @@ pub struct CycleColumn {
     pub cycle: usize,
 }
 
-// The exponent of a batch size: 2 to it is cpi. A number that is no size gets 9.
+// The exponent of a batch size: 2 to it is cpi. A number that is no size gets 9, which `exponent_of` promises, and no Option.
 pub fn exponent(cpi: usize) -> u32
     ensures { result ≡ exponent_of cpi }
 {

@@ -91,7 +91,8 @@ fn ask(
     Ok(())
 }
 
-// A column of every cycle: a run of the first's words, and behind it one of the second's.
+// A column of every cycle: a run of the first's words, and behind it one of the second's. Size and parts stay arguments in these four, as
+// `merge` is handed them (docs/API.md).
 fn write_column(cpi: usize, first: &[u64], second: &[u64], column: usize, batch: &mut [u64])
     requires { Parts cpi first.now second.now × ((length batch.old ≡ batch_words (2 * cpi))
         × (column * cpi + cpi ≤ 2048 * cpi)) }

@@ -5,7 +5,8 @@ ghost use Rattle.packed.specs.One.{row_sum, WordsFrom, BitsFrom, RowIn, InRow};
 use crate::sums::four;
 use crate::words::Words;
 
-// The sum of four columns, whose words stand from word i on.
+// The sum of four columns, whose words stand from word i on. This and the next two are no one function over the size: no const argument
+// can be a quarter of another.
 fn four_at<W: Words>(batch: W, i: usize) -> u64
     requires { WordsFrom (W.words batch) i 8 }
     ensures { result ≡ row_sum (W.words batch) i 4 }

@@ -11,7 +11,8 @@ use crate::order::{Order, put_into};
 use crate::unpack::lay_words;
 use layout::{Question, Refusal};
 
-// A column that is no bit is refused, and `out` must then be as it came: the words are made apart from it, in batch order.
+// The size and the batch stay two arguments, as callers hand them over (docs/API.md): a struct of both would be made and taken apart in
+// each call. A column that is no bit is refused, and `out` must then be as it came: the words are made apart from it, in batch order.
 fn hand_over(order: Order, cpi: usize, batch: &[u64], made: &mut [u64], out: &mut [u64]) -> bool
     requires { NamedIn cpi batch.now made.old × (length out.old ≡ 32 * cpi) }
     ensures { Handed order cpi batch.now out.old out.new result }

@@ -12,7 +12,6 @@ use Rattle.circuit.specs.Parse.{parse}
 use Rattle.circuit.specs.Reader.{row_read}
 use Rattle.page.specs.Lines.{row_lines}
 use Rattle.layout.specs.declared.questions.Question.TheVariants.{CycleRange, PageLength}
-use Rattle.circuit.specs.Found.{place_at}
 use Rattle.circuit.specs.declared.search.Place.{Place}
 
 -- so many lines need so many pages of 60; a page has 60 lines of 60 characters

@@ -43,7 +43,9 @@ impl Owed {
         match judge::check_row(cpi as usize, &listing, batch, scratch) {
             Ok(v) => self.verdict_is(v) && all_are(scratch, 0),
             Err(r) => {
-                (self.verdict == 3) && (u64::from(r.question.number()) == self.row) && all_are(scratch, 1)
+                (self.verdict == 3)
+                    && (u64::from(r.question.number()) == self.row)
+                    && all_are(scratch, 1)
             }
         }
     }

@@ -35,7 +35,8 @@ fn words_in(which: Known) -> usize
     }
 }
 
-// Whether a listing is the one that is named, word by word. One of another length makes no table.
+// Whether a listing is the one that is named, word by word. One of another length makes no table. Two arms, as the tables are arrays of
+// two lengths.
 pub fn is_known(which: Known, listing: &[u32]) -> bool
     ensures { (result ≡ true) ↔ (listing.now ≡ listing_of which) }
 {

@@ -7,7 +7,8 @@ ghost use Rattle.text.specs.Digits.{decimal, hex_digit, hex};
 ghost use Rattle.text.specs.Decimal.{decimal_of};
 ghost use Rattle.text.specs.Put.{Put};
 
-// A number's decimal digits, right-aligned in as many bytes as the largest number takes, and the index of the first.
+// A number's decimal digits, right-aligned in as many bytes as the largest number takes, and the index of the first: `decimal_of`
+// (docs/API.md) promises both, and nothing here allocates, so this is no String.
 #[derive(Clone, Copy)]
 pub struct Decimal {
     pub bytes: [u8; 20],

@@ -93,7 +93,7 @@ pub fn check_row(
     Ok(walk::walk(cpi, listing, batch))
 }
 
-// The verdict over the listing that is named, of a batch whose size is in order.
+// The verdict over the listing that is named, of a batch whose size is in order. Two arms, as the tables are arrays of two lengths.
 fn walk_known(which: Known, cpi: usize, batch: &[u64]) -> Verdict
     requires { (allowed cpi ≡ true) × (length batch.now ≡ batch_words cpi) }
     ensures { result ≡ judged cpi (listing_of which) batch.now }

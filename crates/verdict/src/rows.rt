@@ -10,7 +10,8 @@ use crate::Sums;
 use circuit::Side;
 use field::Gf128;
 
-// The sum of a side, and the index behind its terms.
+// The sum of a side, and the index behind its terms. This and the next two are no one generic struct: each field is named by a promise
+// of its own (specs/Promises.antt).
 #[derive(Clone, Copy)]
 pub struct SideSum {
     pub sum: Gf128,

@@ -17,7 +17,6 @@ use Rattle.cellprism.specs.Bytes.{row_of, read_called}
 use Rattle.cellprism.specs.Laws.Read.{read-yes}
 use Rattle.benchpage.specs.Printed.{sides_in, sides_of, pages_of}
 use Rattle.benchpage.specs.Promises.{FivePages}
-use Rattle.circuit.specs.Found.{place_at}
 use Rattle.circuit.specs.declared.search.Place.{Place}
 
 bytes_in : Answer ℕ → ℕ
