@@ -6,6 +6,7 @@ use crate::sums::four;
 use crate::words::Words;
 
 // The sum of four columns, whose words stand from word i on.
+#[tactic(auto, using(crate::proofs::Rules::row_words))]
 fn four_at<W: Words>(batch: W, i: usize) -> u64
     requires { WordsFrom (W.words batch) i 8 }
     ensures { result ≡ row_sum (W.words batch) i 4 }
@@ -17,6 +18,7 @@ fn four_at<W: Words>(batch: W, i: usize) -> u64
     four(1, a, b, c, d)
 }
 
+#[tactic(auto, using(crate::proofs::Rules::row_words))]
 fn sixteen_at<W: Words>(batch: W, i: usize) -> u64
     requires { WordsFrom (W.words batch) i 32 }
     ensures { result ≡ row_sum (W.words batch) i 16 }
@@ -28,6 +30,7 @@ fn sixteen_at<W: Words>(batch: W, i: usize) -> u64
     four(4, a, b, c, d)
 }
 
+#[tactic(auto, using(crate::proofs::Rules::row_words))]
 fn word_at<W: Words>(batch: W, i: usize) -> u64
     requires { WordsFrom (W.words batch) i 128 }
     ensures { result ≡ row_sum (W.words batch) i 64 }
@@ -40,6 +43,7 @@ fn word_at<W: Words>(batch: W, i: usize) -> u64
 }
 
 // 0 exactly where the 64 elements from word i on are bits.
+#[tactic(auto, using(crate::proofs::Rules::row_words))]
 fn seen_at<W: Words>(batch: W, i: usize) -> u64
     requires { WordsFrom (W.words batch) i 128 }
     ensures { (result ≡ 0) ↔ BitsFrom (W.words batch) i }
