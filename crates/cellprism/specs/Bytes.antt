@@ -1,6 +1,6 @@
 -- Reading the bytes of a row into its words.
 -- Assumes nothing.
-use Rattle.std.specs.Prelude.{cond, List, [], ◌∷◌, ℕ, zero, suc, ◌+◌, ◌*◌, eqb, length, take, drop, Err, Ok}
+use Rattle.std.specs.Prelude.{cond, List, ℕ, eqb, length, Err, Ok}
 use Rattle.layout.specs.Batch.{ROW-WORDS}
 use Rattle.layout.specs.Questions.{no, Called, after, Asked}
 use Rattle.layout.specs.declared.questions.Question.TheVariants.{BatchLength}

@@ -49,6 +49,7 @@ fn answer_word(answer: Result<Verdict, Refusal>) -> u32
 
 // The check of one row against the house listing: question 2 is all there is to ask. An accepted row is seen to be one from its bytes;
 // another is read into words, and the listing walked.
+#[tactic(auto, using(crate::proofs::Rules::short), unfolding(crate::specs::Answer::row_checked))]
 pub fn check_bytes(bytes: &[u8]) -> Result<Verdict, Refusal>
     ensures { result ≡ row_checked bytes.now }
 {
@@ -66,6 +67,7 @@ pub fn check_bytes(bytes: &[u8]) -> Result<Verdict, Refusal>
 }
 
 // Reads the bytes of one row into its words: question 2, of both.
+#[tactic(auto, unfolding(crate::specs::Bytes::read_called))]
 pub fn read_bytes(bytes: &[u8], words: &mut [u64]) -> Result<(), Refusal>
     ensures { ◌≡◌ {A = Called} (record { answer = result; batch = words.new })
         (read_called bytes.now words.old) }

@@ -9,6 +9,7 @@ use packed::bytes::RowBytes;
 use strict::Known;
 
 // Whether the row is seen to be accepted with no listing read.
+#[tactic(auto, using(crate::proofs::Rules::short))]
 pub fn short_yes(row: RowBytes) -> bool
     ensures { result ≡ short_yes House 1 (row_of row.entry.bytes.now) }
 {

@@ -21,6 +21,7 @@ use strict::Known;
 use verdict::{Counts, Verdict};
 
 // One cycle: word k has columns 64 k to 64 k + 63, and `output` is the public element behind the one column.
+#[tactic(auto, unfolding(crate::specs::Words::judged_words))]
 pub fn judge_words(which: Known, words: &[u64; 32], output: Gf128) -> bool
     ensures { result ≡ judged_words which (λ k. get_or words.now k 0) output }
 {
@@ -28,6 +29,7 @@ pub fn judge_words(which: Known, words: &[u64; 32], output: Gf128) -> bool
 }
 
 // The rows of one relation, in so many cycles.
+#[tactic(auto, using(crate::proofs::Rules::few))]
 fn rows_in(which: Known, relation: Relation, cpi: usize) -> u32
     requires { cpi ≤ 256 }
     ensures { result ≡ rows_each which relation * cpi }
@@ -58,6 +60,7 @@ fn accept(which: Known, cpi: usize, scratch: &mut [u64]) -> Result<Verdict, Refu
 }
 
 // The check against a known listing, with none lent: questions 1 and 2.
+#[tactic(auto, using(crate::proofs::Rules::known))]
 pub fn check_known(which: Known, cpi: usize, batch: &[u64]) -> Result<Verdict, Refusal>
     ensures { result ≡ known_checked which cpi batch.now }
 {
@@ -68,6 +71,7 @@ pub fn check_known(which: Known, cpi: usize, batch: &[u64]) -> Result<Verdict, R
 }
 
 // The check against a listing that is lent: questions 1, 2, 5, and 6 to 10.
+#[tactic(auto, using(crate::proofs::Rules::known))]
 pub fn check_row(
     cpi: usize,
     listing: &[u32],

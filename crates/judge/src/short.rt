@@ -30,6 +30,7 @@ fn pack(cpi: usize, batch: &[u64], out: &mut [u64]) -> Result<bool, Refusal>
 }
 
 // Packs the batch into a slice that is lent, and judges each cycle.
+#[tactic(auto, using(crate::proofs::Rules::packs))]
 fn pack_and_judge(which: Known, cpi: usize, batch: &[u64], out: &mut [u64]) -> bool
     requires { NamedIn cpi batch.now out.old }
     ensures { result ≡ short_bits which cpi batch.now out.old }
@@ -50,6 +51,7 @@ fn short_in<const N: usize>(which: Known, cpi: usize, batch: &[u64]) -> bool
 }
 
 // By the size, so that a small batch clears a small slice.
+#[tactic(auto, using(crate::proofs::Rules::few))]
 fn short_bits(which: Known, cpi: usize, batch: &[u64]) -> bool
     requires { ShortIn cpi batch.now }
     ensures { result ≡ short_bits which cpi batch.now (replicate (32 * cpi) 0) }
@@ -64,6 +66,7 @@ fn short_bits(which: Known, cpi: usize, batch: &[u64]) -> bool
 }
 
 // Of a batch against a known listing.
+#[tactic(auto, using(crate::proofs::Rules::asked))]
 pub fn short_yes(which: Known, cpi: usize, batch: &[u64]) -> bool
     ensures { result ≡ short_yes which cpi batch.now }
 {

@@ -15,6 +15,7 @@ pub struct RowBytes<'a> {
     pub ghost whole: { length bytes.now ≡ 65536 },
 }
 
+#[tactic(auto, using(crate::proofs::Spelled::word_at))]
 fn word_at(bytes: &[u8], at: usize) -> u64
     requires { at + 8 ≤ length bytes.now }
     ensures { result ≡ number_of (take 8 (drop at bytes.now)) }
@@ -42,12 +43,14 @@ fn word_or_zero(bytes: &[u8], i: usize) -> u64
 impl Words for RowBytes<'_> {
     ghost words = { λ row. row_of row.bytes.now };
 
+    #[tactic(auto, using(crate::proofs::Rules::row_bytes))]
     fn word(self, i: usize) -> u64 {
         word_at(self.bytes, 8 * i)
     }
 }
 
 // An element of the row, which is two words.
+#[tactic(auto, using(crate::proofs::Rules::row_bytes))]
 fn element(row: RowBytes, at: usize) -> Gf128
     requires { at < 4096 }
     ensures { result ≡ element_at (row_of row.entry.bytes.now) at }
@@ -71,6 +74,7 @@ impl RowBytes<'_> {
     }
 
     // The words that hold columns which rows name. The answer is whether these columns are bits.
+    #[tactic(auto, using(crate::proofs::Rules::row_bytes))]
     pub fn pack(self, out: &mut [u64; 32]) -> bool
         ensures bits { result ≡ named_bits 1 (row_of self.entry.bytes.now) }
         ensures words { out.new ≡ packed_named 1 (row_of self.entry.bytes.now) out.old }

@@ -7,6 +7,7 @@ use crate::words::Words;
 
 // The sum of four columns, whose words stand from word i on. This and the next two are no one function over the size: no const argument
 // can be a quarter of another.
+#[tactic(auto, using(crate::proofs::Rules::row_words))]
 fn four_at<W: Words>(batch: W, i: usize) -> u64
     requires { WordsFrom (W.words batch) i 8 }
     ensures { result ≡ row_sum (W.words batch) i 4 }
@@ -18,6 +19,7 @@ fn four_at<W: Words>(batch: W, i: usize) -> u64
     four(1, a, b, c, d)
 }
 
+#[tactic(auto, using(crate::proofs::Rules::row_words))]
 fn sixteen_at<W: Words>(batch: W, i: usize) -> u64
     requires { WordsFrom (W.words batch) i 32 }
     ensures { result ≡ row_sum (W.words batch) i 16 }
@@ -29,6 +31,7 @@ fn sixteen_at<W: Words>(batch: W, i: usize) -> u64
     four(4, a, b, c, d)
 }
 
+#[tactic(auto, using(crate::proofs::Rules::row_words))]
 fn word_at<W: Words>(batch: W, i: usize) -> u64
     requires { WordsFrom (W.words batch) i 128 }
     ensures { result ≡ row_sum (W.words batch) i 64 }
@@ -41,6 +44,7 @@ fn word_at<W: Words>(batch: W, i: usize) -> u64
 }
 
 // 0 exactly where the 64 elements from word i on are bits.
+#[tactic(auto, using(crate::proofs::Rules::row_words))]
 fn seen_at<W: Words>(batch: W, i: usize) -> u64
     requires { WordsFrom (W.words batch) i 128 }
     ensures { (result ≡ 0) ↔ BitsFrom (W.words batch) i }

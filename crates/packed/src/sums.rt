@@ -3,6 +3,7 @@ ghost use Rattle.std.specs.Prelude.{◌≡◌, ◌%◌};
 ghost use Rattle.packed.specs.Stacked.{pushed, pushed_four};
 
 // w moved up by m bits, and x put below it; of m the low six bits count.
+#[tactic(auto, unfolding(crate::specs::Stacked::pushed))]
 pub fn above(w: u64, m: u64, x: u64) -> u64
     ensures { result ≡ pushed (m % 64) w x }
 {

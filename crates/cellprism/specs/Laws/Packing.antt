@@ -2,14 +2,12 @@
 -- Assumes nothing.
 use Rattle.std.specs.Prelude.{◌≡◌, Bool, true, false, ◌&&◌, ℕ, zero, suc, ◌+◌, ◌*◌, ◌^◌, ◌<◌, length, take, drop, replicate, Ok}
 use Rattle.std.proofs.Math.Path.{refl, sym, ap, ap₂}
-use Rattle.std.proofs.Common.{subst, ◌∙◌, arith, lit<, get_or-drop, drop-drop}
+use Rattle.std.proofs.Common.{subst, ◌∙◌, arith, lit<, get_or-drop}
 use Rattle.std.proofs.Math.Bool.{and-true}
 use mathlib.Core.List.{List, [], ◌∷◌}
 use Rattle.std.proofs.Math.Decide.{dec_lt}
 use Rattle.std.proofs.Math.Nat.{pow-succ'}
-use Rattle.std.specs.Int.Bits.{bit_or}
 use Rattle.std.proofs.Math.ListN.{get_or, get_or-eq_default}
-use Rattle.base.specs.Laws.Cases.{no_true}
 use Rattle.field.specs.declared.Gf128.{Gf128}
 use Rattle.field.specs.Gf.{one, same}
 use Rattle.layout.specs.Batch.{allowed, ROW-WORDS, batch_asked}
@@ -18,14 +16,11 @@ use Rattle.strict.specs.declared.Known.TheVariants.{House}
 use Rattle.verdict.specs.Row.{element_at}
 use Rattle.packed.specs.Laws.Bytes.{word_of, row-length}
 use Rattle.packed.specs.Packed.{packed_named, named_bits}
-use Rattle.packed.specs.One.{InRow}
-use Rattle.packed.specs.Named.{Named}
-use Rattle.packed.specs.Laws.Named.{both-rows, named-out}
 use Rattle.judge.specs.Words.{words_from, judged_words, all_judged}
 use Rattle.judge.specs.Short.{short_bits, short_yes}
 use Rattle.judge.specs.Laws.WordsSame.{judged-agree}
 use Rattle.judge.specs.Laws.Short.{no_one, left-bits}
-use Rattle.cellprism.specs.Bytes.{number_of, words_of, row_of}
+use Rattle.cellprism.specs.Bytes.{number_of, row_of}
 
 -- ---- the words of a row
 

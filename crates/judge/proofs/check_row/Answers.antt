@@ -2,19 +2,13 @@
 -- Assumes nothing.
 use mathlib.Core.Path.{◌∙◌}
 use native.Mathlib.Omega.{arith}
-use Rattle.judge.specs.Laws.Short.{short-few, row-short}
+use Rattle.judge.specs.Laws.Short.{row-short}
 use Rattle.judge.proofs.check_row.Goals as goal
-
-pub accept-requires : goal.accept-requires
-accept-requires c = short-few _ _ _ (c.short_row.ensures.0 c.if-short_row.true).yes
 
 pub returns-then-short_row : goal.returns-then-short_row
 returns-then-short_row c =
     c.accept.ensures
     ∙ row-short _ _ _ _ _ (λ j. omega (arith, c.shared_slice_known-2-1.given j)) (c.short_row.ensures.0 c.if-short_row.true)
-
-pub accept-requires-then-short_row-2 : goal.accept-requires-then-short_row-2
-accept-requires-then-short_row-2 c = short-few _ _ _ (c.short_row-2.ensures.0 c.if-short_row-2.true).yes
 
 pub returns-then-short_row-2 : goal.returns-then-short_row-2
 returns-then-short_row-2 c =
