@@ -1,6 +1,6 @@
 -- Packed words laid out as elements, turn by turn, and the batch that they make.
 -- Assumes nothing.
-use Rattle.std.specs.Prelude.{◌≡◌, ℕ, ◌+◌, ◌-◌, ◌*◌, ◌/◌, ◌%◌, ◌^◌, ◌<◌, ◌≤◌, Bool, List, length, ◌≢◌, slice_index, slice_set, refl, Ok}
+use Rattle.std.specs.Prelude.{◌≡◌, ℕ, ◌+◌, ◌-◌, ◌*◌, ◌/◌, ◌%◌, ◌^◌, ◌<◌, ◌≤◌, Bool, List, length, ◌≢◌, slice_index, slice_set, refl, Err, Ok}
 use Rattle.std.proofs.Common.{sym, ap, ◌∙◌, zero-add, div-one, arith, lt-ltb, le-ltb, eq-eqb, ne_eqb, length-set, shr-shr, ext_get_or, get_or-set_same, get_or-set_other}
 use Rattle.std.proofs.Math.Decide.{ℕ_discrete, dec_lt}
 use Rattle.base.specs.Bits.{digit, bit_at}
@@ -8,7 +8,8 @@ use Rattle.base.specs.Lists.{from}
 use Rattle.base.specs.Laws.Numbers.{digit-of}
 use Rattle.base.specs.Laws.Tests.{passed, refused}
 use Rattle.base.specs.Laws.From.{length_from, get_or-from}
-use Rattle.layout.specs.Laws.Questions.{called-yes}
+use Rattle.layout.specs.declared.questions.Refusal.{Refusal}
+use Rattle.layout.specs.Laws.Questions.{called-yes, called-no}
 use Rattle.layout.specs.Laws.Sizes.{allowed-range}
 use Rattle.packed.specs.Packed.{pack_asked}
 use Rattle.packed.specs.Storage.{bit_in, unpacked_word, unpacked, unpack_called}
@@ -128,6 +129,11 @@ module _ (cpi : ℕ) (words batch : List ℕ) where
   unpack-in e =
       let h = asked-yes-in cpi batch words e in let few = (allowed-range cpi h.size).1 in
       record { few = omega (arith, h.words, few); inside = omega (arith, h.words, h.room) }
+
+  pub unpack-none : (r : Refusal) → pack_asked cpi (length batch) (length words) ≡ Err r
+      → record { answer = Err r; batch = batch } ≡ unpack_called cpi words batch
+  unfolding unpack_called
+  unpack-none r e = called-no (pack_asked cpi (length batch) (length words)) r (unpacked cpi words batch) batch e
 
   pub unpack-yes : (new : List ℕ) → pack_asked cpi (length batch) (length words) ≡ Ok tt → Unpacked words (length words) batch new
       → record { answer = Ok tt; batch = new } ≡ unpack_called cpi words batch

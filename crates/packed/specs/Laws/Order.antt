@@ -2,7 +2,7 @@
 -- Assumes nothing.
 use Rattle.std.specs.Prelude.{◌≡◌, ℕ, ◌+◌, ◌-◌, ◌*◌, ◌/◌, ◌%◌, ◌<◌, ◌≤◌, true, List, ◌++◌, length, take, drop, ◌≢◌, slice_index, refl}
 use Rattle.std.proofs.Math.Path.{sym, ap}
-use Rattle.std.proofs.Common.{ap₂, ◌∙◌, add-mul, mul_assoc, mul-le-mul_right, one-mul, mod-lt, div-add-mod', div-lt_iff_lt-mul, arith, length-drop, length-take-le, get_or-take, get_or-drop, get_or-append-add}
+use Rattle.std.proofs.Common.{ap₂, ◌∙◌, add-mul, mul_assoc, mul-le-mul_right, one-mul, mod-lt, div-add-mod', div-lt_iff_lt-mul, arith, length-append, length-drop, length-take-le, get_or-take, get_or-drop, get_or-append-add}
 use Rattle.std.proofs.Math.Decide.{dec_lt}
 use Rattle.std.proofs.Math.Arith.{digits_lt}
 use Rattle.std.proofs.Math.ListN.{get_or-append}
@@ -48,6 +48,13 @@ module _ (cpi : ℕ) (batch cycles : List ℕ) (h : Alike cpi batch cycles 2048)
       ∙ same-words (bit_in batch) (λ (x : ℕ). bit_in cycles (in_cycles cpi x)) (32 * cpi)
       (λ x l. ap (bit_in batch) (sym (div-add-mod' x cpi))
       ∙ sym (h (x / cpi) (x % cpi) ((div-lt_iff_lt-mul some).1 (omega arith)) (mod-lt x some)))
+
+-- what the order is told to be
+pub into-batch : (order : Order) (cpi : ℕ) (words out : List ℕ) → order ≡ Batch → out ≡ by_batch cpi words → out ≡ put_into order cpi words
+into-batch order cpi words out q e = e ∙ ap (λ (o : Order). put_into o cpi words) (sym q)
+
+pub into-cycles : (order : Order) (cpi : ℕ) (words out : List ℕ) → order ≡ Cycles → out ≡ by_cycle cpi words → out ≡ put_into order cpi words
+into-cycles order cpi words out q e = e ∙ ap (λ (o : Order). put_into o cpi words) (sym q)
 
 -- one cycle's words are in both orders
 pub one-cycle : (order : Order) (cpi : ℕ) (words : List ℕ) → cpi ≡ 1 → length words ≡ 32 * cpi → Fit words → words ≡ put_into order cpi words
@@ -159,6 +166,18 @@ module _ (cpi q : ℕ) (s batch : List ℕ) (l : q < 32) (e : length batch ≡ 3
             ap (λ (n : ℕ). slice_index (front ++ (s ++ rest)) (n + k)) (sym front_length) ∙ get_or-append-add front (s ++ rest) k 0
             ∙ get_or-append s rest 0 k (omega (arith, f));
       }
+
+  pub written-length : length (take (q * cpi) batch ++ (s ++ drop (q * cpi + cpi - q * cpi) (drop (q * cpi) batch))) ≡ 32 * cpi
+  written-length =
+      omega (
+        arith,
+        length-append front (s ++ rest),
+        front_length,
+        length-append s rest,
+        length-drop (q * cpi + cpi - q * cpi) (drop (q * cpi) batch),
+        length-drop (q * cpi) batch,
+        block-end cpi q l,
+      )
 
 -- word q of each cycle put or taken
 pub words-put : (cpi q : ℕ) (a before after : List ℕ) → q < 32 → length a ≡ cpi → Scattered a q (length a) before after
