@@ -23,6 +23,7 @@ pub fn rows_a_cycle(relation: Relation) -> usize
     }
 }
 
+// Of two values, so it is no conversion of one.
 fn mark_word(relation: Relation, row: u32) -> u32
     requires { row ≤ 511 }
     ensures { result ≡ mark_word relation row }

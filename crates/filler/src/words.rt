@@ -12,7 +12,8 @@ use crate::derive::{GivenWords, word_of};
 use field::Gf128;
 use layout::columns::{ALU, FETCH, FLAGS, LOAD_VAL, RS1, RS2, T1, T2};
 
-// An element of a batch, by its batch column.
+// An element of a batch, by its batch column. Each crate that reads one has such a function of its own: a public one would ask something
+// of its caller.
 pub fn element(batch: &[u64], at: usize) -> Gf128
     requires { 2 * at + 1 < length batch.now }
     ensures { result ≡ element_at batch.now at }

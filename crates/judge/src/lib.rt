@@ -28,7 +28,8 @@ pub fn judge_words(which: Known, words: &[u64; 32], output: Gf128) -> bool
     CycleWords { words, at: 0 }.judge(which, output)
 }
 
-// The rows of one relation, in so many cycles.
+// The rows of one relation, in so many cycles. That these are at most 256 is asked here and twice below: a type for the one number would be
+// taken apart in each.
 #[tactic(auto, using(crate::proofs::Rules::few))]
 fn rows_in(which: Known, relation: Relation, cpi: usize) -> u32
     requires { cpi ≤ 256 }

@@ -11,6 +11,7 @@ use field::Gf128;
 use layout::Refusal;
 use strict::Known;
 
+// By its batch column; a public function in filler, which has the same, would ask something of its caller.
 fn element(batch: &[u64], at: usize) -> Gf128
     requires { 2 * at + 1 < length batch.now }
     ensures { result ≡ element_at batch.now at }

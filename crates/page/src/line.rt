@@ -9,6 +9,7 @@ use layout::Refusal;
 use verdict::{Counts, Verdict};
 
 // `Put` (docs/API.md) and `Placed` promise each byte and the index behind them, in lent bytes: so an index goes along, and no writer.
+// That there is room is asked of each.
 // Places a part at an index where there is room for it, and gives the index behind it. The next five do the same with their texts; three
 // of them start at 0.
 fn place(out: &mut [u8], at: usize, part: &[u8]) -> usize

@@ -41,6 +41,7 @@ fn put_right(page: &mut [u8], at: usize, narrow: usize, width: usize, n: usize) 
     put_in(page, at, width, &bytes[20 - narrow..])
 }
 
+// This and the relation's name are bytes and no Display, since a page is promised byte by byte.
 fn side_name(side: Side) -> [u8; 1]
     ensures { result ≡ side_text side }
 {

@@ -17,6 +17,7 @@ pub struct NotBit {
     pub cycle: usize,
 }
 
+// A public function that reads an element would ask something of its caller, so this crate reads its own.
 fn is_bit_at(batch: &[u64], at: usize) -> bool
     requires { 2 * at + 1 < length batch.now }
     ensures { result ≡ is_bit (element_at batch.now at) }

@@ -93,7 +93,8 @@ pub fn check_row(
     Ok(walk::walk(cpi, listing, batch))
 }
 
-// The verdict over the listing that is named, of a batch whose size is in order. Two arms, as the tables are arrays of two lengths.
+// The verdict over the listing that is named, of a batch whose size is in order. Two arms, as the tables are arrays of two lengths. The
+// size and the batch stay two arguments here and below, as callers hand them over (docs/API.md).
 fn walk_known(which: Known, cpi: usize, batch: &[u64]) -> Verdict
     requires { (allowed cpi ≡ true) × (length batch.now ≡ batch_words cpi) }
     ensures { result ≡ judged cpi (listing_of which) batch.now }
