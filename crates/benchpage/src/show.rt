@@ -12,7 +12,8 @@ ghost use Rattle.benchpage.specs.Promises.{FivePages};
 use circuit::Relation;
 use verdict::Verdict;
 
-// A line and its end at an index; gives the index behind them.
+// A line and its end at an index; gives the index behind them. `Placed` promises each byte and the index, in lent bytes: so an index goes
+// along, and room is asked of each.
 fn put_line(out: &mut [u8], at: usize, line: &[u8]) -> usize
     requires { at + length line.now + 1 ≤ length out.old }
     ensures { Placed at (line.now ++ ascii "\n") out.old out.new result }

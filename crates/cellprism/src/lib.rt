@@ -15,7 +15,8 @@ use packed::bytes::RowBytes;
 use strict::Known;
 use verdict::{Counts, Verdict};
 
-// The relation as in a mark. A `From` for it, or for a verdict, may stand only in the crate of its type.
+// The relation as in a mark. A `From` for it, or for a verdict, may stand only in the crate of its type,
+// where the numbers of this boundary have no place.
 fn relation_bit(relation: Relation) -> u32
     ensures { (result ≡ flag_word relation) × (result ≤ 1) }
 {

@@ -5,8 +5,8 @@ ghost use Rattle.circuit.specs.Valid.{after_mark, after_term, after_word, valida
 use crate::words;
 use layout::{Question, Refusal};
 
-// What is known after some words: low is the least place that the next mark may have in the order of marks, 0 before the first; kind
-// is that of the last term of the row.
+// What is known after some words: low is the least place that the next mark may have in the order of marks, 0 before the first (so
+// `after_term` has it, and no Option); kind is that of the last term of the row.
 #[derive(Clone, Copy)]
 struct Progress {
     low: u32,

@@ -58,7 +58,8 @@ pub fn find_row(listing: &[u32], relation: Relation, row: usize) -> Result<Place
     Ok(Place { start, end })
 }
 
-// The words from start on, up to but not including end, as far as the listing has them.
+// The words from start on, up to but not including end, as far as the listing has them. The parts of a `Place`, of which `take` and `drop`
+// speak.
 fn words_between(listing: &[u32], start: usize, end: usize) -> &[u32]
     ensures { result.now ≡ take (end - start) (drop start listing.now) }
 {

@@ -38,6 +38,7 @@ pub fn one_of(part: u32, first: u64, second: u64) -> u64
     if part == 0 { first } else { second }
 }
 
+// Of two values, so it is no conversion.
 fn word_of(e: Gf128, word: u32) -> u64
     ensures { result ≡ word_of word e }
 {
@@ -147,13 +148,14 @@ pub fn compare_row_way_back(cpi: usize, relation: u32, batch_row: usize, part: u
     }
 }
 
-// Word i, or 0 past the end.
+// Word i, or 0 past the end; `search::word_at` answers with another number there, and on places.
 fn word_or_zero(words: &[u32], i: usize) -> u32
     ensures { result ≡ get_or words.now i 0 }
 {
     words.get(i).copied().unwrap_or(0)
 }
 
+// Two arms, as the tables are arrays of two lengths.
 pub fn compare_listing_word(which: u32, i: usize) -> u32
     ensures { result ≡ get_or (listing_of (chosen_listing which)) i 0 }
 {

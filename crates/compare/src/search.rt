@@ -51,6 +51,7 @@ pub fn compare_row_part(listing: &[u32], relation: u32, row: usize, i: usize) ->
     )
 }
 
+// Of three values, so it is no conversion.
 fn chosen_place(refused: u32, start: usize, end: usize) -> Result<Place, Refusal>
     ensures { result ≡ chosen_place refused start end }
 {

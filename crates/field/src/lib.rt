@@ -148,7 +148,8 @@ impl Gf128 {
         self.shift_and_add(rhs)
     }
 
-    // SP 800-38D, Algorithm 1, which ends here as soon as the rest of b is zero.
+    // SP 800-38D, Algorithm 1, which ends here as soon as the rest of b is zero: so no range of 128 turns, which a small factor would go
+    // through whole.
     fn shift_and_add(self, rhs: Gf128) -> Gf128
         ensures { result ≡ product self rhs }
     {

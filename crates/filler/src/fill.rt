@@ -37,8 +37,8 @@ fn is_faulty(k: u32, batch: &[u64], at: usize) -> bool
     !is_derived(at >> k)
 }
 
-// The smallest batch column among the given ones that is above 1, or the number of witness columns where none is. The size and the batch
-// stay two arguments here and below, as callers hand them over (docs/API.md).
+// The smallest batch column among the given ones that is above 1, or the number of witness columns where none is, as `first_faulty` has
+// it. The size and the batch stay two arguments here and below, as callers hand them over (docs/API.md).
 fn first_faulty(cpi: usize, batch: &[u64]) -> usize
     requires { (allowed cpi ≡ true) × (length batch.now ≡ batch_words cpi) }
     ensures { result ≡ first_faulty cpi batch.now }

@@ -1,5 +1,6 @@
 // A cycle's columns read as words, low bit first, and words put into columns. The batch, its size and the cycle are passed one by one:
-// a struct that held the batch for writing would have to promise of every write that the other two stay.
+// a struct that held the batch for writing would have to promise of every write that the other two stay, and one for reading would be made
+// anew at each call.
 ghost use Rattle.std.specs.Prelude.{◌≡◌, ◌+◌, ◌*◌, ◌<◌, ◌≤◌, length};
 ghost use Rattle.base.specs.Bits.{digit, bit_at};
 ghost use Rattle.verdict.specs.Row.{element_at, bits_of};

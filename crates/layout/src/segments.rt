@@ -59,7 +59,8 @@ pub fn segment_lengths() -> [usize; 19]
     SEGMENTS.map(|s| s.length)
 }
 
-// The name of the segment that has the column, and blanks where none has it: in a gap, and from the one column on.
+// The name of the segment that has the column, and blanks where none has it: in a gap, and from the one column on. docs/API.md promises the
+// nine bytes under this name, and no Option.
 #[tactic(auto, unfolding(crate::specs::Segments::segment_name))]
 pub fn segment_name(column: usize) -> [u8; 9]
     ensures { result ≡ padded (segment_name column) }

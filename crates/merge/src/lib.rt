@@ -22,7 +22,8 @@ fn differ_at(first: &[u64], second: &[u64], column: usize) -> bool
     one != other
 }
 
-// The first column from start on in which they differ, or end where none does.
+// The first column from start on in which they differ, or end where none does, as `first_from` has it. `filler` and `verdict` search so, too,
+// each with its own test: as a parameter it would need a clause of its own.
 fn first_differing(first: &[u64], second: &[u64], start: usize, end: usize) -> usize
     requires { (start ≤ end) × ((2 * end ≤ length first.now) × (2 * end ≤ length second.now)) }
     ensures { result ≡ first_from (differs first.now second.now) start (end - start) }

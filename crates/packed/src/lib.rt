@@ -18,7 +18,8 @@ ghost use Rattle.packed.specs.Named.{Named, NamedIn};
 
 use layout::{Question, Refusal};
 
-// Words 0 to 14, 16 and 17. The answer is 0 exactly where their columns are bits.
+// Words 0 to 14, 16 and 17. The answer is 0 exactly where their columns are bits. Size and batch stay two arguments here and below, as callers
+// hand them over (docs/API.md).
 #[tactic(auto, using(crate::proofs::Rules::ranges))]
 fn pack_one(batch: &[u64], out: &mut [u64]) -> u64
     requires { NamedIn 1 batch.now out.old }
@@ -42,7 +43,7 @@ fn pack_many(cpi: usize, batch: &[u64], acc: &mut [u64], out: &mut [u64]) -> u64
     low | high
 }
 
-// The same, with room for N cycles on the stack.
+// The same, with room for N cycles on the stack: nothing here allocates.
 fn pack_in<const N: usize>(cpi: usize, batch: &[u64], out: &mut [u64]) -> u64
     requires { NamedIn cpi batch.now out.old × (cpi ≤ N) × (N ≤ 256) }
     ensures { Named cpi batch.now out.old out.new result }

@@ -32,6 +32,7 @@ fn blocks(order: Order, cpi: usize, words: &[u64], a: &mut [u64], b: &mut [u64],
     for q in 0..32 {
         let start = q * cpi;
         let end = start + cpi;
+        // One match; a closure for each way was no plainer.
         match order {
             Order::Batch => {
                 get_words(words, q, a);
@@ -54,6 +55,7 @@ pub fn put_into(order: Order, cpi: usize, words: &[u64], out: &mut [u64])
         base::copy_at(words, out, 0);
         return;
     }
+    // Room for the largest size, on the stack: nothing here allocates.
     let mut a = [0u64; 256];
     let mut b = [0u64; 256];
     blocks(order, cpi, words, &mut a[..cpi], &mut b[..cpi], out);

@@ -2,7 +2,8 @@
 ghost use Rattle.std.specs.Prelude.{length};
 ghost use Rattle.packed.specs.Unpack.{WordTo, Laid, UnpackIn, Unpacked};
 
-// The bits of w, as elements from word `at` of the batch on.
+// The bits of w, as elements from word `at` of the batch on. `witness` has the same for a row: a public function for both would ask for
+// room.
 fn lay_word(w: u64, at: usize, batch: &mut [u64])
     requires { WordTo at batch.old }
     ensures { Laid w at 64 batch.old batch.new }

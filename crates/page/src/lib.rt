@@ -35,7 +35,7 @@ pub fn page_bytes(listing: &[u32], relation: Relation, row: usize) -> Result<usi
     Ok(bytes_of_lines(place.end - place.start))
 }
 
-// Writes the pages of a row that was found: its head, its terms, and blanks to the end.
+// Writes the pages of a row that was found: its head, its terms, and blanks to the end. Start and end are what `RowAt` speaks of.
 fn write_pages(
     page: &mut [u8],
     cycle: &Cycle,
@@ -57,7 +57,7 @@ fn write_pages(
     text::put_left(page, last, rest, b"");
 }
 
-// Questions 6 to 10, 13, 16 and 15.
+// Questions 6 to 10, 13, 16 and 15. The size and the batch stay two arguments, as callers hand them over (docs/API.md).
 #[tactic(auto, unfolding(crate::specs::Pages::laid_at))]
 fn lay_row(
     cpi: usize,

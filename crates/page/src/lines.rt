@@ -1,5 +1,6 @@
-// The lines of a bench page. A function here that puts a text at an index supposes room for it, and gives the index behind it. A term's
-// place is its batch column.
+// The lines of a bench page. A function here that puts a text at an index supposes room for it, and gives the index behind it, since
+// `Placed` promises each byte and that index, in lent bytes. A term's place is its batch column. `Short` is asked of three: a type for a
+// small exponent would stand beside `Coefficient`, which document 01 names.
 ghost use Rattle.std.specs.Prelude.{◌≡◌, ◌+◌, ◌*◌, ◌-◌, ◌^◌, ◌<◌, ◌≤◌, length};
 ghost use Rattle.base.specs.Lists.{joined};
 ghost use Rattle.base.specs.Text.{left};

@@ -7,7 +7,7 @@ pub struct Line {
     pub numbers: [u64; 8],
 }
 
-// A byte that is no hex digit counts as 0.
+// A byte that is no hex digit counts as 0: so no `from_str_radix`, which refuses one.
 fn digit(b: u8) -> u64 {
     match b {
         b'0'..=b'9' => u64::from(b - b'0'),

@@ -57,6 +57,7 @@ fn column_is(answer: Result<usize, Refusal>, n: u64) -> bool {
     }
 }
 
+// Two, and no function over the mapping: one as a parameter would need a clause of its own.
 pub fn witness_column([cpi, column, cycle, at, ..]: [u64; 8]) -> bool {
     column_is(
         layout::map_col(cpi as usize, column as usize, cycle as usize),

@@ -7,7 +7,8 @@ use compare::fills::compare_first_unmet;
 use compare::reader::compare_reader;
 use verdict::{Counts, Verdict};
 
-// What the check owes: 0 accepted, 1 fails in bin, 2 in fld, and 3 for a refusal, whose number stands in the place of the row.
+// What the check owes, as the vector file has it: 0 accepted, 1 fails in bin, 2 in fld, and 3 for a refusal, whose number stands in the
+// place of the row.
 #[derive(Clone, Copy)]
 struct Owed {
     verdict: u64,

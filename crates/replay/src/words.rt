@@ -45,6 +45,7 @@ pub fn part(words: &[u64], from: usize, count: u64) -> Result<&[u64], Wrong> {
         .ok_or(Wrong::Place)
 }
 
+// A name for what is said three times.
 pub fn all_are(words: &[u64], word: u64) -> bool {
     words.iter().all(|w| *w == word)
 }

@@ -20,7 +20,8 @@ fn ask(cpi: usize, cycles: usize, public: usize, batch: usize) -> Result<(), Ref
     Ok(())
 }
 
-// A column of every cycle: one cycle after the other in the lent words, side by side in the batch.
+// A column of every cycle: one cycle after the other in the lent words, side by side in the batch. Size and cycles stay two arguments in these
+// three, as callers hand them over (docs/API.md).
 fn write_column(cpi: usize, cycles: &[u64], column: usize, batch: &mut [u64])
     requires { Lent cpi cycles.now × ((length batch.old ≡ batch_words cpi) × (column < 2048)) }
     ensures { Written (cycle_word cpi cycles.now) (2 * (column * cpi))

@@ -132,7 +132,8 @@ fn row_words(cycle: CycleRecord, rom: RomRow) -> [u64; 18]
     ]
 }
 
-// 64 columns from word `start` on, the low bit first: a column's low word is its bit, its high word 0.
+// 64 columns from word `start` on, the low bit first: a column's low word is its bit, its high word 0. `packed` has the same for a batch: a
+// public function for both would ask for room.
 fn write_word(w: u64, start: usize, row: &mut [u64])
     requires { start + 128 ≤ length row.old }
     ensures { Written (bits_from start w) start (start + 128) row.old row.new }

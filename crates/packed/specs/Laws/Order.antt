@@ -225,10 +225,10 @@ no_block cpi words batch cycles a b out i f =
 all_alike : (cpi : ℕ) (batch cycles a b out : List ℕ) (q : ℕ) → 32 ≤ q → Going cpi batch cycles a b out q → Alike cpi batch cycles 2048
 all_alike cpi batch cycles a b out q l g c d m n = g.alike c d (omega arith) n
 
-cycles-end : (cpi : ℕ) (batch a b out : List ℕ) (q : ℕ) → 32 ≤ q → Going cpi batch out a b out q → out ≡ by_cycle cpi batch
+pub cycles-end : (cpi : ℕ) (batch a b out : List ℕ) (q : ℕ) → 32 ≤ q → Going cpi batch out a b out q → out ≡ by_cycle cpi batch
 cycles-end cpi batch a b out q l g = are-cycles cpi batch out (all_alike cpi batch out a b out q l g) g.room g.fit
 
-batch-end : (cpi : ℕ) (cycles a b out : List ℕ) (q : ℕ) → 0 < cpi → 32 ≤ q → Going cpi out cycles a b out q → out ≡ by_batch cpi cycles
+pub batch-end : (cpi : ℕ) (cycles a b out : List ℕ) (q : ℕ) → 0 < cpi → 32 ≤ q → Going cpi out cycles a b out q → out ≡ by_batch cpi cycles
 batch-end cpi cycles a b out q some l g = are-batch cpi out cycles (all_alike cpi out cycles a b out q l g) some g.room g.fit
 
 pub blocks-end : (order : Order) (cpi : ℕ) (words a b out : List ℕ) (q : ℕ) → 0 < cpi → 32 ≤ q
