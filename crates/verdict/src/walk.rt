@@ -28,12 +28,10 @@ fn is_fld_mark(w: u32) -> bool
 fn first_fld(listing: &[u32]) -> usize
     ensures { result ≡ until is_fld_mark listing.now }
 {
-    for (i, w) in listing.iter().enumerate() {
-        if is_fld_mark(*w) {
-            return i;
-        }
-    }
-    listing.len()
+    listing
+        .iter()
+        .position(|w| is_fld_mark(*w))
+        .unwrap_or(listing.len())
 }
 
 fn batch_row(relation: Relation, cycle: usize, row: usize) -> usize
