@@ -12,7 +12,7 @@ ghost use Rattle.verdict.specs.Apply.{RowFound, applied_at, applied_to, applied}
 ghost use Rattle.verdict.specs.Counts.{rows};
 ghost use Rattle.verdict.specs.Check.{Checked, asked, judged, checked, known_checked};
 
-use crate::rows::row_sums;
+use crate::rows::{Cycle, row_sums};
 use circuit::Relation;
 use circuit::search::Place;
 use field::Gf128;
@@ -136,7 +136,12 @@ fn apply_row(
     if cpi <= cycle {
         return Err(Question::CycleRange.refused());
     }
-    let row = row_sums(cpi, listing, place.start + 1, batch, cycle);
+    let at = Cycle {
+        cpi,
+        batch,
+        number: cycle,
+    };
+    let row = row_sums(at, listing, place.start + 1);
     Ok(row.sums)
 }
 

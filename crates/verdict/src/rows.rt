@@ -10,6 +10,15 @@ use crate::Sums;
 use circuit::Side;
 use field::Gf128;
 
+// A cycle of a batch whose size is in order.
+#[derive(Clone, Copy)]
+pub struct Cycle<'a> {
+    pub cpi: usize,
+    pub batch: &'a [u64],
+    pub number: usize,
+    ghost in_batch: { Cycle cpi number batch.now },
+}
+
 // The sum of a side, and the index behind its terms. This and the next two are no one generic struct: each field is named by a promise
 // of its own (specs/Promises.antt).
 #[derive(Clone, Copy)]
@@ -45,33 +54,23 @@ fn column_at(cpi: usize, column: usize, cycle: usize) -> usize
     }
 }
 
-// Hot, so the next four take cpi, batch and cycle, with the fact `Cycle`, as parameters: a struct lent by reference was never timed here.
-
 // A term's coefficient times its column. A coefficient zero reads no column.
 #[tactic(auto, unfolding(crate::specs::Row::cycle_of))]
-fn term(cpi: usize, batch: &[u64], cycle: usize, w: u32) -> Gf128
-    requires { Cycle cpi cycle batch.now }
-    ensures { result ≡ times (coefficient_of w) (cycle_of cpi batch.now cycle (w % 2 ^ 12)) }
+fn term(cycle: Cycle, w: u32) -> Gf128
+    ensures { result ≡ times (coefficient_of w) (cycle_of cycle.entry.cpi cycle.entry.batch.now cycle.entry.number (w % 2 ^ 12)) }
 {
     if (w >> 29) % 2 == 0 {
-        let at = 2 * column_at(cpi, (w % 4096) as usize, cycle);
-        Gf128::of_words(batch[at], batch[at + 1]).times_power((w >> 12) % 64)
+        let at = 2 * column_at(cycle.cpi, (w % 4096) as usize, cycle.number);
+        Gf128::of_words(cycle.batch[at], cycle.batch[at + 1]).times_power((w >> 12) % 64)
     } else {
         Gf128::zero()
     }
 }
 
 // The sum of one side, whose terms stand from `from` on.
-fn side_sum(
-    cpi: usize,
-    listing: &[u32],
-    from: usize,
-    side: Side,
-    batch: &[u64],
-    cycle: usize,
-) -> SideSum
-    requires { Cycle cpi cycle batch.now × (from ≤ length listing.now) }
-    ensures { SideSummed (cycle_of cpi batch.now cycle) listing.now from side result }
+fn side_sum(cycle: Cycle, listing: &[u32], from: usize, side: Side) -> SideSum
+    requires { from ≤ length listing.now }
+    ensures { SideSummed (cycle_of cycle.entry.cpi cycle.entry.batch.now cycle.entry.number) listing.now from side result }
 {
     let mut sum = Gf128::zero();
     for i in from..listing.len() {
@@ -79,7 +78,7 @@ fn side_sum(
         if circuit::words::side_kind(side) < w >> 30 {
             return SideSum { sum, end: i };
         }
-        sum = sum.add(term(cpi, batch, cycle, w));
+        sum = sum.add(term(cycle, w));
     }
     SideSum {
         sum,
@@ -88,13 +87,13 @@ fn side_sum(
 }
 
 // The sums of a row, whose terms stand from `from` on, in the order that question 10 asks for.
-pub fn row_sums(cpi: usize, listing: &[u32], from: usize, batch: &[u64], cycle: usize) -> RowSums
-    requires { Cycle cpi cycle batch.now × ((from ≤ length listing.now) × (sorted 0 (drop from listing.now) ≡ true)) }
-    ensures { RowSummed (cycle_of cpi batch.now cycle) listing.now from result }
+pub fn row_sums(cycle: Cycle, listing: &[u32], from: usize) -> RowSums
+    requires { (from ≤ length listing.now) × (sorted 0 (drop from listing.now) ≡ true) }
+    ensures { RowSummed (cycle_of cycle.entry.cpi cycle.entry.batch.now cycle.entry.number) listing.now from result }
 {
-    let a = side_sum(cpi, listing, from, Side::A, batch, cycle);
-    let b = side_sum(cpi, listing, a.end, Side::B, batch, cycle);
-    let c = side_sum(cpi, listing, b.end, Side::C, batch, cycle);
+    let a = side_sum(cycle, listing, from, Side::A);
+    let b = side_sum(cycle, listing, a.end, Side::B);
+    let c = side_sum(cycle, listing, b.end, Side::C);
     RowSums {
         sums: Sums {
             a: a.sum,
@@ -106,11 +105,11 @@ pub fn row_sums(cpi: usize, listing: &[u32], from: usize, batch: &[u64], cycle: 
 }
 
 // A row holds when A · B = C.
-pub fn test_row(cpi: usize, listing: &[u32], from: usize, batch: &[u64], cycle: usize) -> Tested
-    requires { Cycle cpi cycle batch.now × ((from ≤ length listing.now) × (sorted 0 (drop from listing.now) ≡ true)) }
-    ensures { RowTested (cycle_of cpi batch.now cycle) listing.now from result }
+pub fn test_row(cycle: Cycle, listing: &[u32], from: usize) -> Tested
+    requires { (from ≤ length listing.now) × (sorted 0 (drop from listing.now) ≡ true) }
+    ensures { RowTested (cycle_of cycle.entry.cpi cycle.entry.batch.now cycle.entry.number) listing.now from result }
 {
-    let row = row_sums(cpi, listing, from, batch, cycle);
+    let row = row_sums(cycle, listing, from);
     let Sums { a, b, c } = row.sums;
     Tested {
         holds: a.mul(b) == c,

@@ -11,7 +11,7 @@ ghost use Rattle.verdict.specs.Check.{met, run, judged};
 ghost use Rattle.verdict.specs.Order.{is_fld_mark};
 ghost use Rattle.verdict.specs.StillToTest.{all_parts};
 
-use crate::rows::test_row;
+use crate::rows::{Cycle, test_row};
 use crate::{Counts, Verdict};
 use circuit::Relation;
 
@@ -69,12 +69,17 @@ fn walk_parts(cpi: usize, bin: &[u32], fld: &[u32], batch: &[u64]) -> Verdict
     'relations: {
         for part in [bin, fld] {
             'cycles: for cycle in 0..cpi {
+                let here = Cycle {
+                    cpi,
+                    batch,
+                    number: cycle,
+                };
                 // A row ends where its terms do, so this index jumps.
                 let mut at: usize = 0;
                 'rows: while at < part.len() {
                     let mark = part[at];
                     let kind = circuit::words::relation_of(mark);
-                    let row = test_row(cpi, part, at + 1, batch, cycle);
+                    let row = test_row(here, part, at + 1);
                     tested = one_more(tested, kind);
                     if !row.holds {
                         break 'relations Verdict::Failed {

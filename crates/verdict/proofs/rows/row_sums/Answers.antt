@@ -58,6 +58,6 @@ module _ (z : ℕ → Gf128) (ws : List ℕ) (from : ℕ) (h : sorted 0 (drop fr
 
 pub returns : goal.returns
 returns c =
-    summed _ _ _ c.requires.1.1 _ _ _ c.side_sum-a.ensures
+    summed _ _ _ c.requires.1 _ _ _ c.side_sum-a.ensures
     c.side_sum-b.ensures
     c.side_sum-c.ensures

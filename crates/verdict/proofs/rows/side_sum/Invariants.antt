@@ -10,5 +10,5 @@ use Rattle.verdict.proofs.rows.side_sum.Given as goal
 
 abbrev pub invariant-loop-i : goal.invariant-loop-i
 invariant-loop-i l = (l.i + run_length l.side (drop l.i l.listing) ≡ l.from + run_length l.side (drop l.from l.listing))
-    × (added l.sum (sum_of (cycle_of l.cpi l.batch l.cycle) (run_terms l.side (drop l.i l.listing)))
-    ≡ sum_of (cycle_of l.cpi l.batch l.cycle) (run_terms l.side (drop l.from l.listing)))
+    × (added l.sum (sum_of (cycle_of l.cycle.cpi l.cycle.batch.now l.cycle.number) (run_terms l.side (drop l.i l.listing)))
+    ≡ sum_of (cycle_of l.cycle.cpi l.cycle.batch.now l.cycle.number) (run_terms l.side (drop l.from l.listing)))

@@ -37,7 +37,7 @@ rows-init c =
 pub test_row-row-requires : goal.test_row-row-requires
 test_row-row-requires c =
     let t = c.rows in
-    (search rules, (search rules, (at_mark _ t.at c.rows-test.true t.invariant.3).1))
+    (search rules, (at_mark _ t.at c.rows-test.true t.invariant.3).1)
 
 pub rows-preserved : goal.rows-preserved
 rows-preserved c =
