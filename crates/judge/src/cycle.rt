@@ -23,18 +23,12 @@ fn same_bit(w: u64, k: u64, v: u64) -> bool
     (w >> k) % 2 == v % 2
 }
 
-// EQA to WNL: 58 bits.
-fn same_lanes(w: u64, v: u64) -> bool
-    ensures { result ≡ same_bits 0 58 w v }
+// The lowest N bits.
+fn same_low<const N: u64>(w: u64, v: u64) -> bool
+    requires { N < 64 }
+    ensures { result ≡ same_bits 0 N w v }
 {
-    w % 0x400_0000_0000_0000 == v % 0x400_0000_0000_0000
-}
-
-// OPSYS to ZE8: 39 bits.
-fn same_branches(w: u64, v: u64) -> bool
-    ensures { result ≡ same_bits 0 39 w v }
-{
-    w % 0x80_0000_0000 == v % 0x80_0000_0000
+    w % (1 << N) == v % (1 << N)
 }
 
 // The 32 words of a cycle, which start at `at`.
@@ -74,8 +68,8 @@ impl CycleWords<'_> {
     fn high_written(self, d: DerivedWords) -> bool
         ensures { result ≡ all_written_in (words_from self.entry.words.now self.entry.at) (high_blocks d) }
     {
-        same_lanes(self.word(14), d.lanes)
-            & (same_word(self.word(16), d.zeros) & same_branches(self.word(17), d.branches))
+        same_low::<58>(self.word(14), d.lanes)
+            & (same_word(self.word(16), d.zeros) & same_low::<39>(self.word(17), d.branches))
     }
 
     // Every derived column.
