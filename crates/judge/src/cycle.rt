@@ -1,5 +1,5 @@
 // A cycle judged from its packed words: word k has columns 64 k to 64 k + 63. The tests have no branch between them.
-ghost use Rattle.std.specs.Prelude.{◌≡◌, ◌+◌, ◌*◌, ◌<◌, ◌≤◌, length};
+ghost use Rattle.std.specs.Prelude.{◌≡◌, ◌*◌, ◌<◌, ◌≤◌, length};
 ghost use Rattle.filler.specs.Words.{low_blocks, flag_blocks, high_blocks, blocks};
 ghost use Rattle.judge.specs.Words.{words_from, given_in, same_bits, all_written_in, judged_words, all_judged};
 
@@ -31,25 +31,23 @@ fn same_low<const N: u64>(w: u64, v: u64) -> bool
     w % (1 << N) == v % (1 << N)
 }
 
-// The 32 words of a cycle, which start at `at`.
+// The 32 words of a cycle.
 #[derive(Clone, Copy)]
 pub struct CycleWords<'a> {
-    pub words: &'a [u64],
-    pub at: usize,
-    pub ghost inside: { at + 32 ≤ length words.now },
+    pub words: &'a [u64; 32],
 }
 
 impl CycleWords<'_> {
     fn word(self, k: usize) -> u64
         requires { k < 32 }
-        ensures { result ≡ words_from self.entry.words.now self.entry.at k }
+        ensures { result ≡ words_from self.entry.words.now 0 k }
     {
-        self.words[self.at + k]
+        self.words[k]
     }
 
     // CARRY_OFF, SHIFT_SRC, STORE_OLD and STORE_SRC.
     fn low_written(self, g: GivenWords, d: DerivedWords) -> bool
-        ensures { result ≡ all_written_in (words_from self.entry.words.now self.entry.at) (low_blocks g d) }
+        ensures { result ≡ all_written_in (words_from self.entry.words.now 0) (low_blocks g d) }
     {
         same_word(self.word(7), d.carry)
             & (same_word(self.word(9), g.rs1)
@@ -58,7 +56,7 @@ impl CycleWords<'_> {
 
     // HALT and TAKEN.
     fn flags_written(self, d: DerivedWords) -> bool
-        ensures { result ≡ all_written_in (words_from self.entry.words.now self.entry.at) (flag_blocks d) }
+        ensures { result ≡ all_written_in (words_from self.entry.words.now 0) (flag_blocks d) }
     {
         let w = self.word(12);
         same_bit(w, 5, d.branches >> 6) & same_bit(w, 11, taken_bit(d.branches))
@@ -66,7 +64,7 @@ impl CycleWords<'_> {
 
     // EQA to WNL, ZERO, and OPSYS to ZE8.
     fn high_written(self, d: DerivedWords) -> bool
-        ensures { result ≡ all_written_in (words_from self.entry.words.now self.entry.at) (high_blocks d) }
+        ensures { result ≡ all_written_in (words_from self.entry.words.now 0) (high_blocks d) }
     {
         same_low::<58>(self.word(14), d.lanes)
             & (same_word(self.word(16), d.zeros) & same_low::<39>(self.word(17), d.branches))
@@ -74,14 +72,14 @@ impl CycleWords<'_> {
 
     // Every derived column.
     fn derived_written(self, g: GivenWords, d: DerivedWords) -> bool
-        ensures { result ≡ all_written_in (words_from self.entry.words.now self.entry.at) (blocks g d) }
+        ensures { result ≡ all_written_in (words_from self.entry.words.now 0) (blocks g d) }
     {
         self.low_written(g, d) & (self.flags_written(d) & self.high_written(d))
     }
 
     // What the derived columns depend on.
     fn given(self) -> GivenWords
-        ensures { result ≡ given_in (words_from self.entry.words.now self.entry.at) }
+        ensures { result ≡ given_in (words_from self.entry.words.now 0) }
     {
         GivenWords {
             rs1: self.word(0),
@@ -97,7 +95,7 @@ impl CycleWords<'_> {
 
     // The conditions of a known listing, and whether every derived column holds what the filler would write.
     pub fn judge(self, which: Known, output: Gf128) -> bool
-        ensures { result ≡ judged_words which (words_from self.entry.words.now self.entry.at) output }
+        ensures { result ≡ judged_words which (words_from self.entry.words.now 0) output }
     {
         let g = self.given();
         let w = step_words(g, self.word(2), self.word(4));
@@ -111,8 +109,9 @@ pub fn judge_cycles(which: Known, cpi: usize, words: &[u64], output: Gf128) -> b
     requires { (cpi ≤ 256) × (length words.now ≡ 32 * cpi) }
     ensures { result ≡ all_judged which words.now output cpi 0 }
 {
+    let (cycles, _) = words.as_chunks::<32>();
     for d in 0..cpi {
-        let cycle = CycleWords { words, at: 32 * d };
+        let cycle = CycleWords { words: &cycles[d] };
         if !cycle.judge(which, output) {
             return false;
         }

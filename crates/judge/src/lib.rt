@@ -25,7 +25,7 @@ use verdict::{Counts, Verdict};
 pub fn judge_words(which: Known, words: &[u64; 32], output: Gf128) -> bool
     ensures { result ≡ judged_words which (λ k. get_or words.now k 0) output }
 {
-    CycleWords { words, at: 0 }.judge(which, output)
+    CycleWords { words }.judge(which, output)
 }
 
 // The rows of one relation, in so many cycles. That these are at most 256 is asked here and twice below: a type for the one number would be

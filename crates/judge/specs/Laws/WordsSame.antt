@@ -1,7 +1,9 @@
 -- The judgement of packed words is that of the cycle's bits, and reads no other words than it says; so with every cycle of a batch.
 -- Assumes nothing.
-use Rattle.std.specs.Prelude.{◌≡◌, refl, ◌↔◌, Bool, true, List, [], ◌∷◌, ℕ, ◌+◌, ◌*◌, ◌/◌, ◌%◌, ◌^◌, ◌≤◌, ◌<◌, eqb, leb}
+use Rattle.std.specs.Prelude.{◌≡◌, refl, ◌↔◌, Bool, true, List, [], ◌∷◌, ℕ, zero, suc, ◌+◌, ◌*◌, ◌/◌, ◌%◌, ◌^◌, ◌≤◌, ◌<◌, eqb, leb, get_or, drop}
+use Rattle.std.specs.Simd.{first_chunks}
 use Rattle.std.proofs.Common.{sym, ap, ◌∙◌, arith, leb-true}
+use Rattle.std.proofs.lemmas.List.{get_or-take, get_or-drop}
 use Rattle.std.proofs.Math.Path.{ap₂}
 use Rattle.std.proofs.Math.Bool.{◌&&◌}
 use Rattle.base.specs.Bits.{word}
@@ -21,6 +23,7 @@ use Rattle.filler.specs.Words.{derived_words, blocks}
 use Rattle.filler.specs.Met.{step_words, words_of, flags_in, conditions_of, all_true}
 use Rattle.filler.specs.Laws.MetRead.{opcode-in, flags-in}
 use Rattle.packed.specs.Packed.{named_word}
+use Rattle.packed.specs.Laws.Words.{named-range}
 use Rattle.judge.specs.Judged.{given_of, all_written, judged_cycle, JudgedYes}
 use Rattle.judge.specs.Words.{words_from, given_in, same_bits, all_written_in, judged_words, all_judged}
 use Rattle.judge.specs.Laws.WordsWalk.{all-judged}
@@ -57,6 +60,25 @@ module _ (ws vs : ℕ → ℕ) (h : (k : ℕ) → named_word k ≡ true → ws k
       ∙ ap₂ (λ (r s : ℕ). all_true (conditions_of k (step_words (given_in vs) r s) (flags_in (vs 12)) output)) (h 2 refl) (h 4 refl))
       (ap (λ (g : GivenWords). all_written_in ws (blocks g (derived_words g))) given-agree
       ∙ written-agree (blocks (given_in vs) (derived_words (given_in vs))) (blocks-in-words (given_in vs) (derived_words (given_in vs))))
+
+-- ---- cycle d of a slice that is read as arrays of 32 words
+
+chunk-at : (xs : List ℕ) (n d i : ℕ) → d < n → i < 32 → words_from (get_or (first_chunks 32 n xs) d []) 0 i ≡ words_from xs (32 * d) i
+chunk-at xs zero d i l m = absurd (omega (arith, l))
+chunk-at xs (suc n) zero i l m = get_or-take 32 xs (0 + i) 0 (omega (arith, m)) ∙ ap (λ (x : ℕ). get_or xs x 0) (omega arith)
+chunk-at xs (suc n) (suc d) i l m =
+    chunk-at (drop 32 xs) n d i (omega (arith, l)) m
+    ∙ get_or-drop 32 xs (32 * d + i) 0
+    ∙ ap (λ (x : ℕ). get_or xs x 0) (omega arith)
+
+pub judged-chunk : (k : Known) (list : List ℕ) (n d : ℕ) (output : Gf128) {cycles : List (List ℕ)} → cycles ≡ first_chunks 32 n list → d < n
+    → judged_words k (words_from list (32 * d)) output ≡ judged_words k (words_from (get_or cycles d []) 0) output
+judged-chunk k list n d output e l =
+    let read = first_chunks 32 n list in
+    sym
+    (ap (λ (c : List (List ℕ)). judged_words k (words_from (get_or c d []) 0) output) e
+    ∙ judged-agree (words_from (get_or read d []) 0) (words_from list (32 * d))
+    (λ i t. let r = named-range i t in chunk-at list n d i l (omega (arith, r.0))) k output)
 
 -- ---- from what was read of the words, worked out and tested
 

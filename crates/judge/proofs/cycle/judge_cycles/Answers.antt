@@ -2,6 +2,7 @@
 -- Assumes nothing.
 use mathlib.Core.Path.{sym, ◌∙◌}
 use native.Mathlib.Omega.{arith}
+use Rattle.judge.specs.Laws.WordsSame.{judged-chunk}
 use Rattle.judge.specs.Laws.WordsWalk.{judged-stops, judged-goes, judged-ends}
 use Rattle.judge.proofs.cycle.judge_cycles.Goals as goal
 
@@ -10,7 +11,7 @@ returns-then-not-judge c =
     let t = c.loop-d in let a = c.args in
     sym
     (judged-stops a.which a.words.now a.output a.cpi t.d c.loop-d-test.true
-    (sym c.judge.ensures ∙ c.if-not-judge.true))
+    (judged-chunk _ _ _ _ _ c.as_chunks.ensures.front (omega arith) ∙ sym c.judge.ensures ∙ c.if-not-judge.true))
     ∙ t.invariant.1
 
 pub loop-d-preserved : goal.loop-d-preserved
@@ -19,7 +20,7 @@ loop-d-preserved c =
       omega arith,
       sym
           (judged-goes a.which a.words.now a.output a.cpi t.d c.loop-d-test.true
-          (sym c.judge.ensures ∙ c.if-not-judge.false))
+          (judged-chunk _ _ _ _ _ c.as_chunks.ensures.front (omega arith) ∙ sym c.judge.ensures ∙ c.if-not-judge.false))
           ∙ t.invariant.1,
     )
 
