@@ -82,11 +82,10 @@ pub fn check_row(
     ensures { ◌≡◌ {A = Checked} (record { answer = result; scratch = scratch.new })
         (checked cpi listing.now batch.now scratch.old) }
 {
-    if short_row(Known::House, cpi, listing, batch, scratch.len()) {
-        return accept(Known::House, cpi, scratch);
-    }
-    if short_row(Known::Strict, cpi, listing, batch, scratch.len()) {
-        return accept(Known::Strict, cpi, scratch);
+    for which in [Known::House, Known::Strict] {
+        if short_row(which, cpi, listing, batch, scratch.len()) {
+            return accept(which, cpi, scratch);
+        }
     }
     verdict::check_row(cpi, listing, batch, scratch)
 }
