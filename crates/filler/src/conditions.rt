@@ -153,12 +153,8 @@ fn conditions(w: StepWords, f: StepFlags, output: Gf128) -> [bool; 10]
 fn first_false(met: [bool; 10]) -> Option<usize>
     ensures { result ≡ first_false met }
 {
-    for (k, met) in met.iter().enumerate() {
-        if !*met {
-            return Some(k + 1);
-        }
-    }
-    None
+    let k = met.iter().position(|met| !*met)?;
+    Some(k + 1)
 }
 
 // From the words that the derived columns depend on, and two that they do not.
