@@ -137,8 +137,8 @@ pub fn word_of_bits<const N: usize>(bits: [bool; N]) -> u64
     ensures { N < 64 → (result ≡ pack (flags bits.entry)) × (result < 2 ^ N) }
 {
     let mut w: u64 = 0;
-    for i in (0..N).rev() {
-        w = w.wrapping_mul(2).wrapping_add(word_of(bits[i]));
+    for bit in bits.iter().rev() {
+        w = w.wrapping_mul(2).wrapping_add(word_of(*bit));
     }
     w
 }
