@@ -31,12 +31,11 @@ fn four_columns(batch: &[u64], at: usize, s: usize, step: usize, acc: &mut [u64]
 {
     let mut low: u64 = 0;
     let mut high: u64 = 0;
-    let mut i = at;
-    for word in acc.iter_mut() {
+    for (d, word) in acc.iter_mut().enumerate() {
+        let i = at + step * d;
         *word = put_four(batch, i, s, *word);
         low = seen_four(batch, i, s, low);
         high = seen_four(batch, i + 1, s, high);
-        i += step;
     }
     (low >> 1) | high
 }
