@@ -31,11 +31,6 @@ put_words-last-requires c =
     let w = c.requires.0 in let a = c.args in
     omega (arith, room (a.end - a.start), c.requires.1.1, w.begins, terms _ _ _ w)
 
-pub overflow_sub-rest : goal.overflow_sub-rest
-overflow_sub-rest c =
-    let w = c.requires.0 in let a = c.args in let l = c.put_words-last.ensures.1 in
-    omega (arith, room (a.end - a.start), c.requires.1.1, w.begins, terms _ _ _ w)
-
 pub returns : goal.returns
 unfolding joined
 returns c =

@@ -1,5 +1,5 @@
 -- Where nothing passes bit 127 the shift is the product; else after i turns r is the product with t^i.
-use mathlib.Core.Path.{◌≡◌, sym, ap, ◌∙◌}
+use mathlib.Core.Path.{sym, ap, ◌∙◌}
 use Prim.Native.Nat.{ℕ, ◌-◌}
 use native.Mathlib.Numerals.{add-one}
 use native.Mathlib.Omega.{arith}
@@ -45,10 +45,3 @@ loop-preserved c =
       c.times_t-r.ensures ∙ ap (λ (y : Gf128). product y (power 1)) l.invariant.1 ∙ one-factor x l.counter (omega arith) (omega arith)
           ∙ ap (λ (k : ℕ). product x (power k)) (sym (add-one l.counter)),
     )
-
-pub returns : goal.returns
-returns c =
-    let l = c.loop in
-    let a = c.args in
-    let e : l.counter ≡ a.k = omega arith in
-    l.invariant.1 ∙ ap (λ (k : ℕ). product a.self (power k)) e

@@ -2,13 +2,9 @@
 -- Assumes nothing.
 use mathlib.Core.Path.{◌≡◌, sym, ap, ◌∙◌}
 use mathlib.Core.Bool.{not}
-use native.Mathlib.Nat.{sub-zero}
 use native.Mathlib.Omega.{arith}
 use Rattle.base.specs.Laws.First.{first_stops, first_goes, first_ends}
 use Rattle.verdict.proofs.bits.first_above.Goals as goal
-
-pub loop-i-init : goal.loop-i-init
-loop-i-init c = rw sub-zero
 
 pub returns-then-not-is_bit_at : goal.returns-then-not-is_bit_at
 returns-then-not-is_bit_at c =
