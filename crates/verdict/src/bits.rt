@@ -25,7 +25,7 @@ fn is_bit_at(batch: &[u64], at: usize) -> bool
     Gf128::of_words(batch[2 * at], batch[2 * at + 1]).is_bit()
 }
 
-// The first of so many columns that is above 1, or their number where none is.
+// The first of so many columns that is above 1, or their number where none is, as `first_from` has it.
 fn first_above(batch: &[u64], columns: usize) -> usize
     requires { 2 * columns ≤ length batch.now }
     ensures { result ≡ first_from (above_one batch.now) 0 columns }

@@ -20,7 +20,7 @@ pub struct Cycle<'a> {
 }
 
 // The sum of a side, and the index behind its terms. This and the next two are no one generic struct: each field is named by a promise
-// of its own (specs/Promises.antt).
+// of its own (`SideSummed`, `RowSummed`, `RowTested`).
 #[derive(Clone, Copy)]
 pub struct SideSum {
     pub sum: Gf128,
@@ -41,7 +41,8 @@ pub struct Tested {
     pub end: usize,
 }
 
-// The mapping with no question asked: the loops below are the inside of the check.
+// The mapping with no question asked, where `layout` asks: the loops below are the inside of the check, and a public one without would ask
+// something of its caller.
 #[tactic(auto, unfolding(layout::specs::Batch::column_at))]
 fn column_at(cpi: usize, column: usize, cycle: usize) -> usize
     requires { (cpi ≤ 256) × ((column < 4096) × (cycle < cpi)) }
@@ -67,7 +68,8 @@ fn term(cycle: Cycle, w: u32) -> Gf128
     }
 }
 
-// The sum of one side, whose terms stand from `from` on.
+// The sum of one side, whose terms stand from `from` on. The index is half of the answer, so the loop goes over indices, and so is `from` one
+// here and below: a part of the listing would lose it.
 fn side_sum(cycle: Cycle, listing: &[u32], from: usize, side: Side) -> SideSum
     requires { from ≤ length listing.now }
     ensures { SideSummed (cycle_of cycle.entry.cpi cycle.entry.batch.now cycle.entry.number) listing.now from side result }
