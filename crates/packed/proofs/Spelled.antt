@@ -4,7 +4,7 @@ use mathlib.Core.Path.{◌≡◌, refl, sym, ap, ◌∙◌}
 use mathlib.Core.List.{List, [], ◌∷◌}
 use Prim.Native.Nat.{ℕ, zero, suc, ◌+◌, ◌*◌, ◌^◌}
 use native.Mathlib.Omega.{arith}
-use native.Mathlib.Nat.{zero-add, add-zero, suc-add, mul_assoc, pow-succ'}
+use native.Mathlib.Nat.{zero-add, suc-add, mul_assoc, pow-succ'}
 use lib.ListN.{take, drop, get_or}
 use lib.Seq.{get_or-drop, drop-drop, take-nil}
 use Rattle.base.specs.Lists.{from}
@@ -29,18 +29,12 @@ number-split (suc m) n (b ∷ bs) =
     let higher = ap (λ p. p * number_of (take n (drop m bs))) (pow-succ' 256 m) ∙ mul_assoc 256 (256 ^ m) (number_of (take n (drop m bs))) in
     rw (suc-add m n) (omega arith)
 
-eight_bytes : (bs : List ℕ)
+pub eight_bytes : (bs : List ℕ)
     → number_of (take 8 bs)
     ≡ get_or bs 0 0 + 256 * (get_or bs 1 0 + 256 * (get_or bs 2 0 + 256 * (get_or bs 3 0
     + 256 * (get_or bs 4 0 + 256 * (get_or bs 5 0 + 256 * (get_or bs 6 0 + 256 * get_or bs 7 0))))))
 eight_bytes bs =
     let high = simp get_or-drop at (four_bytes (drop 4 bs)) in omega (arith, number-split 4 4 bs, four_bytes bs, high)
-
-pub word_at : (bytes : List ℕ) (at : ℕ)
-    → number_of (take 8 (drop at bytes))
-    ≡ get_or bytes at 0 + 256 * (get_or bytes (at + 1) 0 + 256 * (get_or bytes (at + 2) 0 + 256 * (get_or bytes (at + 3) 0
-    + 256 * (get_or bytes (at + 4) 0 + 256 * (get_or bytes (at + 5) 0 + 256 * (get_or bytes (at + 6) 0 + 256 * get_or bytes (at + 7) 0))))))
-word_at bytes at = eight_bytes (drop at bytes) ∙ simp (get_or-drop, add-zero)
 
 -- word k of bytes
 abbrev pub word_in : List ℕ → ℕ → ℕ

@@ -15,21 +15,11 @@ pub struct RowBytes<'a> {
     pub ghost whole: { length bytes.now ≡ 65536 },
 }
 
-#[tactic(auto, using(crate::proofs::Spelled::word_at))]
 fn word_at(bytes: &[u8], at: usize) -> u64
     requires { at + 8 ≤ length bytes.now }
     ensures { result ≡ number_of (take 8 (drop at bytes.now)) }
 {
-    u64::from_le_bytes([
-        bytes[at],
-        bytes[at + 1],
-        bytes[at + 2],
-        bytes[at + 3],
-        bytes[at + 4],
-        bytes[at + 5],
-        bytes[at + 6],
-        bytes[at + 7],
-    ])
+    u64::from_le_bytes(*bytes[at..].first_chunk().unwrap())
 }
 
 // Word i, or 0 behind the last.
