@@ -47,10 +47,8 @@ pub fn hex_digits(n: u64) -> [u8; 16]
     ensures { result ≡ hex 16 n }
 {
     let mut digits = [b'0'; 16];
-    let mut rest = n;
-    for i in (0..16).rev() {
-        digits[i] = hex_digit(rest % 16);
-        rest /= 16;
+    for (i, digit) in digits.iter_mut().enumerate() {
+        *digit = hex_digit((n >> (60 - 4 * i)) % 16);
     }
     digits
 }
