@@ -16,7 +16,7 @@ hex_more n i l =
     let f : 64 - 4 * (i + 1) ≡ k = omega arith in
     let p : 2 ^ (k + 4) ≡ 2 ^ k * 16 = pow-add 2 k 4 in
     let d : n / 2 ^ (64 - 4 * i) ≡ n / 2 ^ k / 16 =
-        ap (λ (m : ℕ). n / 2 ^ m) e ∙ ap (λ (m : ℕ). n / m) p ∙ sym (div-div-eq-div-mul n (2 ^ k) 16) in
+    ap (λ (m : ℕ). n / 2 ^ m) e ∙ ap (λ (m : ℕ). n / m) p ∙ sym (div-div-eq-div-mul n (2 ^ k) 16) in
     ap (λ (m : ℕ). hex i m ++ (hex_digit (n / 2 ^ k % 16) ∷ [])) d
     ∙ ap (λ (m : ℕ). hex i (n / 2 ^ m / 16) ++ (hex_digit (n / 2 ^ m % 16) ∷ [])) (sym f)
 
@@ -30,8 +30,8 @@ loop-i-preserved c =
       omega (arith, c.loop-i-test.true),
       length-set l.digit-items l.i d ∙ long,
       take_more_set l.digit-items l.i d (omega (arith, long, c.loop-i-test.true))
-      ∙ ap₂ (λ (ds : List ℕ) (x : ℕ). ds ++ (x ∷ [])) l.invariant.2 c.hex_digit.ensures
-      ∙ hex_more n l.i c.loop-i-test.true ∙ ap (λ (k : ℕ). hex k (n / 2 ^ (64 - 4 * (l.i + 1)))) (sym (add-one l.i)),
+          ∙ ap₂ (λ (ds : List ℕ) (x : ℕ). ds ++ (x ∷ [])) l.invariant.2 c.hex_digit.ensures
+          ∙ hex_more n l.i c.loop-i-test.true ∙ ap (λ (k : ℕ). hex k (n / 2 ^ (64 - 4 * (l.i + 1)))) (sym (add-one l.i)),
     )
 
 pub returns : goal.returns

@@ -11,10 +11,10 @@ loop-d-preserved c =
     let l = c.loop-d in let a = c.args in let b = a.batch.now in let i = a.at + 2 * l.d in
     let place : a.at + a.step * l.d ≡ i = ap (λ (k : ℕ). a.at + k * l.d) c.requires.two in
     let next = next-turn b a.at a.s a.acc.now l.acc l.low l.high l.d i 2
-            (omega (arith, l.invariant.1.lengths, c.loop-d-test.true)) refl l.invariant.1
-            (c.put_four.ensures ∙ ap (λ (j : ℕ). pushed_at b j a.s (slice_index l.acc l.d)) place)
-            (c.seen_four-low.ensures ∙ ap (λ (j : ℕ). seen_at b j a.s l.low) place)
-            (c.seen_four-high.ensures ∙ ap (λ (j : ℕ). seen_at b (j + 1) a.s l.high) place) in (
+    (omega (arith, l.invariant.1.lengths, c.loop-d-test.true)) refl l.invariant.1
+    (c.put_four.ensures ∙ ap (λ (j : ℕ). pushed_at b j a.s (slice_index l.acc l.d)) place)
+    (c.seen_four-low.ensures ∙ ap (λ (j : ℕ). seen_at b j a.s l.low) place)
+    (c.seen_four-high.ensures ∙ ap (λ (j : ℕ). seen_at b (j + 1) a.s l.high) place) in (
       omega (arith, c.loop-d-test.true),
       subst (FourTurn b a.at a.s a.acc.now _ _ _ (l.d + 1)) (omega arith) next,
     )
