@@ -25,9 +25,11 @@ pub fn copy_at(words: &[u64], s: &mut [u64], start: usize)
     ensures { Written (copied words.now start s.old) start (length s.old)
         s.old s.new }
 {
-    if start < s.len() {
-        let n = words.len().min(s.len() - start);
-        s[start..start + n].copy_from_slice(&words[..n]);
+    for k in start..s.len() {
+        let Some(word) = words.get(k - start) else {
+            return;
+        };
+        s[k] = *word;
     }
 }
 

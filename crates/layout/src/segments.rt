@@ -18,7 +18,7 @@ struct Segment {
 
 // A start is the column that `WITNESS_LAYOUT` gives, since sums of the lengths would put fetch at 808.
 #[rattlefmt::skip]
-const SEGMENTS: [Segment; 19] = [
+static SEGMENTS: [Segment; 19] = [
     Segment { name: *b"rs1      ", start: RS1, length: W_BITS },
     Segment { name: *b"rs2      ", start: RS2, length: W_BITS },
     Segment { name: *b"rd       ", start: RD, length: W_BITS },
@@ -50,13 +50,13 @@ pub fn segment_names() -> [u8; 171]
 pub fn segment_starts() -> [usize; 19]
     ensures { result ≡ segment_starts segments }
 {
-    SEGMENTS.map(|s| s.start)
+    array::from_fn(|i| SEGMENTS[i].start)
 }
 
 pub fn segment_lengths() -> [usize; 19]
     ensures { result ≡ segment_lengths segments }
 {
-    SEGMENTS.map(|s| s.length)
+    array::from_fn(|i| SEGMENTS[i].length)
 }
 
 // The name of the segment that has the column, and blanks where none has it: in a gap, and from the one column on. docs/API.md promises the

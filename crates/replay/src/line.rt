@@ -1,4 +1,5 @@
 // A line of the vector file: a letter, and up to eight numbers in hex, each behind one blank.
+ghost use Rattle.std.specs.Prelude.{◌≤◌};
 
 // Numbers that are left out are 0.
 #[derive(Clone, Copy)]
@@ -8,7 +9,9 @@ pub struct Line {
 }
 
 // A byte that is no hex digit counts as 0: so no `from_str_radix`, which refuses one.
-fn digit(b: u8) -> u64 {
+fn digit(b: u8) -> u64
+    ensures { result ≤ 15 }
+{
     match b {
         b'0'..=b'9' => u64::from(b - b'0'),
         b'a'..=b'f' => u64::from(b - b'a') + 10,

@@ -2,11 +2,11 @@
 -- Assumes nothing.
 use borrow.Author.Rules.{rules}
 use Rattle.layout.specs.Segments.{segments}
-use Rattle.layout.proofs.Table.{no_row, lengths_read}
+use Rattle.layout.proofs.Table.{lengths_read}
 use Rattle.layout.proofs.segments.segment_lengths.Goals as goal
 
 pub returns : goal.returns
 unfolding segments
 returns c =
-    let m = c.map.ensures.items in
-    lengths_read c.map.result m.long (λ k h. let t = (m.at k no_row 0 h).2 in search rules)
+    let m = c.from_fn.ensures.items in
+    lengths_read c.from_fn.result m.long (λ k h. let t = (m.at k 0 h).2 in search rules)
