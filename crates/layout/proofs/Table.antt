@@ -1,13 +1,13 @@
 -- The table of segments in code: each row is the segment's, its name filled up with blanks.
 -- Assumes nothing.
-use Rattle.std.specs.Prelude.{◌≡◌, true, false, ◌&&◌, List, [], map, ℕ, ◌+◌, ◌/◌, ◌%◌, ◌≤◌, ◌<◌, leb, ltb, length, get_or, drop}
-use Rattle.std.proofs.Common.{refl, sym, ap, ◌∙◌, arith, drop_of_length-le}
+use Rattle.std.specs.Prelude.{◌≡◌, true, false, ◌&&◌, List, [], ◌∷◌, ◌++◌, map, flat_map, ℕ, ◌+◌, ◌≤◌, ◌<◌, leb, ltb, length, get_or, drop}
+use Rattle.std.proofs.Common.{refl, sym, ap, ◌∙◌, arith, ext_get_or, drop_of_length-le}
 use Rattle.std.proofs.lemmas.Grind.{same_number_lists}
 use Rattle.base.specs.Lists.{joined}
 use Rattle.base.specs.Laws.Lists.{get_or-mapped}
 use Rattle.layout.specs.declared.segments.Segment.{Segment as Row}
 use Rattle.layout.specs.Segments.{Segment, segment, segments, padded, segment_names, segment_starts, segment_lengths, in_segment, name_in, segment_name, segment_at}
-use Rattle.layout.specs.Laws.Segments.{segments-count, segments-fit, name-byte, name-stops, name-goes}
+use Rattle.layout.specs.Laws.Segments.{segments-count, name-stops, name-goes}
 
 abbrev pub made : Segment → Row
 made s = record { name = padded s.name; start = s.start; length = s.columns }
@@ -38,9 +38,18 @@ one_each : (f : Segment → ℕ) → length (map f segments) ≡ 19
 unfolding segments
 one_each f = refl
 
-bytes_of : length (segment_names segments) ≡ 171
+names_each : length (map (λ s. padded s.name) segments) ≡ 19
+unfolding segments
+names_each = refl
+
+pub bytes_of : length (segment_names segments) ≡ 171
 unfolding segments joined
 bytes_of = refl
+
+flat_joined : (xs : List (List ℕ)) → flat_map (λ x. x) xs ≡ joined xs
+unfolding joined
+flat_joined [] = refl
+flat_joined (x ∷ xs) = ap (λ l. x ++ l) (flat_joined xs)
 
 -- what is read off the rows, one after the other
 pub starts_read : (ys : List ℕ) → length ys ≡ 19 → ((k : ℕ) → k < 19 → get_or ys k 0 ≡ (get_or (map made segments) k no_row).start)
@@ -55,13 +64,12 @@ lengths_read ys e f = same_number_lists ys (segment_lengths segments) (e ∙ sym
     (λ k h. f k (omega arith) ∙ ap (λ (r : Row). r.length) (row_at (map made segments) k 0 refl (omega arith))
     ∙ sym (get_or-mapped (λ (s : Segment). s.columns) segments k (segment [] 0 0) 0 (omega (arith, segments-count))))
 
-pub names_read : (ys : List ℕ) → length ys ≡ 171
-    → ((k : ℕ) → k < 171 → get_or ys k 0 ≡ get_or (get_or (map made segments) (k / 9) no_row).name (k % 9) 0)
-    → ys ≡ segment_names segments
-names_read ys e f = same_number_lists ys (segment_names segments) (e ∙ sym bytes_of)
-    (λ k h. f k (omega arith) ∙ ap (λ (r : Row). get_or r.name (k % 9) 0) (row_at (map made segments) (k / 9) 0 refl (omega arith))
-    ∙ sym (name-byte (k % 9) (omega arith) segments (k / 9) segments-fit (omega (arith, segments-count)))
-    ∙ ap (λ (n : ℕ). get_or (segment_names segments) n 0) (omega arith))
+-- the names one after the other, from those of the rows
+pub names_joined : (ys : List (List ℕ)) → length ys ≡ 19 → ((k : ℕ) → k < 19 → get_or ys k [] ≡ padded (segment_at segments k).name)
+    → flat_map (λ y. y) ys ≡ segment_names segments
+names_joined ys e f = ap (flat_map (λ y. y)) (ext_get_or [] ys (map (λ s. padded s.name) segments) (e ∙ sym names_each)
+    (λ k h. f k (omega arith) ∙ sym (get_or-mapped (λ (s : Segment). padded s.name) segments k (segment [] 0 0) [] (omega (arith, segments-count)))))
+    ∙ flat_joined (map (λ s. padded s.name) segments)
 
 pub ends : (i c : ℕ) → 19 ≤ i → name_in (drop i segments) c ≡ segment_name c → padded [] ≡ padded (segment_name c)
 unfolding name_in

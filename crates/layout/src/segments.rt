@@ -1,6 +1,6 @@
 // The segments of `SEGMENTS_CPU`, in one table; names, starts and lengths are handed out each in an array of its own.
-ghost use Rattle.std.specs.Prelude.{◌≡◌};
-ghost use Rattle.layout.specs.Segments.{segments, segment_names, segment_starts, segment_lengths, segment_name, padded};
+ghost use Rattle.std.specs.Prelude.{◌≡◌, ◌<◌};
+ghost use Rattle.layout.specs.Segments.{segments, segment_names, segment_starts, segment_lengths, segment_name, segment_at, padded};
 
 use crate::columns::{
     ALU, CARRY_OFF, EQA, FETCH, FLAGS, LOAD_VAL, OFF, PC, RAM_ADDR, RD, RS1, RS2, SHIFT_OUT,
@@ -44,7 +44,13 @@ static SEGMENTS: [Segment; 19] = [
 pub fn segment_names() -> [u8; 171]
     ensures { result ≡ segment_names segments }
 {
-    array::from_fn(|k| SEGMENTS[k / 9].name[k % 9])
+    let names: [[u8; 9]; 19] = array::from_fn(
+        |i|
+            requires { i < 19 }
+            ensures { result ≡ padded (segment_at segments i).name }
+        { SEGMENTS[i].name },
+    );
+    *names.as_flattened().first_chunk().unwrap()
 }
 
 pub fn segment_starts() -> [usize; 19]
