@@ -6,19 +6,20 @@ use crate::words;
 use layout::{Question, Refusal};
 
 // What is known after some words: low is the least place that the next mark may have in the order of marks, 0 before the first (so
-// `after_term` has it, and no Option); kind is that of the last term of the row.
+// `after_term` has it, and no Option); kind is that of the last term of the row. Of two u32 the compiler would make one word at each
+// turn, and take it apart again, which is a quarter more of `validate`.
 #[derive(Clone, Copy)]
 struct Progress {
-    low: u32,
-    kind: u32,
+    low: usize,
+    kind: usize,
 }
 
 // Question 9.
 #[tactic(auto, unfolding(crate::specs::Valid::after_mark))]
-fn after_mark(low: u32, w: u32) -> Result<Progress, Question>
+fn after_mark(low: usize, w: u32) -> Result<Progress, Question>
     ensures { result ≡ after_mark low w }
 {
-    let order = (w >> 29) % 2 * 512 + w % 512;
+    let order = ((w >> 29) % 2 * 512 + w % 512) as usize;
     if order < low {
         return Err(Question::MarkOrder);
     }
@@ -33,21 +34,24 @@ fn after_mark(low: u32, w: u32) -> Result<Progress, Question>
 
 // Questions 8 and 10.
 #[tactic(auto, unfolding(crate::specs::Valid::after_term))]
-fn after_term(low: u32, kind: u32, w: u32) -> Result<Progress, Question>
+fn after_term(low: usize, kind: usize, w: u32) -> Result<Progress, Question>
     ensures { result ≡ after_term low kind w }
 {
     if low == 0 {
         return Err(Question::FirstMark);
     }
-    if w >> 30 < kind {
+    if ((w >> 30) as usize) < kind {
         return Err(Question::TermOrder);
     }
-    Ok(Progress { low, kind: w >> 30 })
+    Ok(Progress {
+        low,
+        kind: (w >> 30) as usize,
+    })
 }
 
 // Question 7, and then those of a mark or of a term.
 #[tactic(auto, unfolding(crate::specs::Valid::after_word))]
-fn after_word(low: u32, kind: u32, w: u32) -> Result<Progress, Question>
+fn after_word(low: usize, kind: usize, w: u32) -> Result<Progress, Question>
     ensures { result ≡ after_word low kind w }
 {
     if !words::is_clean(w) {
@@ -68,8 +72,8 @@ pub fn validate(listing: &[u32]) -> Result<(), Refusal>
     if 16384 < listing.len() {
         return Err(Question::ListingLength.refused());
     }
-    let mut low: u32 = 0;
-    let mut kind: u32 = 0;
+    let mut low: usize = 0;
+    let mut kind: usize = 0;
     for (i, w) in listing.iter().enumerate() {
         match after_word(low, kind, *w) {
             Ok(next) => (low, kind) = (next.low, next.kind),

@@ -1,18 +1,21 @@
--- `circuit::search::next_mark` meets its contract: the count from i on is what `position` finds in the words from there.
+-- `circuit::search::next_mark` meets its contract: the count from here is the count asked for, at every turn.
 -- Assumes nothing.
-use Rattle.std.proofs.Common.{◌≡◌, true, false, ◌∙◌, sym, ap, ◌+◌, length, arith, rules}
-use Rattle.std.proofs.lemmas.Iterator.{IsFirst-from_position, YieldsList-from_slice}
-use Rattle.std.proofs.lemmas.Slice.{between_to_end}
-use borrow.Author.Tests.{tests}
+use Rattle.std.proofs.Common.{◌≡◌, ◌∙◌, sym, length, arith, rules}
 use Rattle.circuit.specs.Words.{is_mark}
-use Rattle.circuit.specs.Found.{until}
-use Rattle.circuit.proofs.Laws.First.{until_first}
+use Rattle.circuit.specs.Laws.Search.{stops, goes, ends}
+use Rattle.base.specs.Laws.WaysOut.{waysOut}
 use Rattle.circuit.proofs.search.next_mark.Goals as goal
+
+pub loop-k-init : goal.loop-k-init
+loop-k-init c = search waysOut
+
+pub returns-then-listing-k-gt2 : goal.returns-then-listing-k-gt2
+returns-then-listing-k-gt2 c = search (stops, waysOut)
+
+pub loop-k-preserved : goal.loop-k-preserved
+loop-k-preserved c = search (goes, waysOut, rules)
 
 pub returns : goal.returns
 returns c =
-    let ws = c.args.listing.now in
-    let rest = between_to_end ws c.args.i (length ws) (omega arith) in
-    let f = IsFirst-from_position _ _ _ (λ w. is_mark w ≡ true) (λ w. is_mark w ≡ false) c.position.ensures.ran (YieldsList-from_slice _ cc)
-    (λ x q k. search (rules, tests)) (λ x q k. search (rules, tests)) in
-    ap (λ k. c.args.i + k) (c.unwrap_or.ensures ∙ sym (until_first is_mark _ _ f) ∙ ap (until is_mark) rest)
+    let t = c.loop-k in let n = length c.args.listing.now in let all : n ≡ t.k = omega arith in
+    all ∙ sym (ends (is_mark) _ t.k c.loop-k-test.false) ∙ t.invariant
