@@ -28,7 +28,24 @@ pub record QuestionNumbers : Type 0 where
 
 pub question-numbers : QuestionNumbers
 question-numbers = record {
-  batch_size = refl; batch_length = refl; public_length = refl; cycles_length = refl; scratch_length = refl;
-  listing_length = refl; word_bits = refl; first_mark = refl; mark_order = refl; term_order = refl;
-  given_bits = refl; one_column = refl; row_sought = refl; column_range = refl; cycle_range = refl;
-  page_length = refl; lower_bits = refl; packed_length = refl; merge_sizes = refl; public_columns = refl }
+  batch_size = refl;
+  batch_length = refl;
+  public_length = refl;
+  cycles_length = refl;
+  scratch_length = refl;
+  listing_length = refl;
+  word_bits = refl;
+  first_mark = refl;
+  mark_order = refl;
+  term_order = refl;
+  given_bits = refl;
+  one_column = refl;
+  row_sought = refl;
+  column_range = refl;
+  cycle_range = refl;
+  page_length = refl;
+  lower_bits = refl;
+  packed_length = refl;
+  merge_sizes = refl;
+  public_columns = refl;
+}
