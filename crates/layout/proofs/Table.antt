@@ -1,7 +1,7 @@
 -- The table of segments in code: each row is the segment's, its name filled up with blanks.
 -- Assumes nothing.
 use Rattle.std.specs.Prelude.{◌≡◌, true, false, ◌&&◌, List, [], ◌∷◌, ◌++◌, map, flat_map, ℕ, ◌+◌, ◌≤◌, ◌<◌, leb, ltb, length, get_or, drop}
-use Rattle.std.proofs.Common.{refl, sym, ap, ◌∙◌, arith, ext_get_or, drop_of_length-le}
+use Rattle.std.proofs.Common.{refl, sym, ap, ◌∙◌, arith, drop_of_length-le}
 use Rattle.std.proofs.lemmas.Grind.{same_number_lists}
 use Rattle.base.specs.Lists.{joined}
 use Rattle.base.specs.Laws.Lists.{get_or-mapped}
@@ -38,15 +38,11 @@ one_each : (f : Segment → ℕ) → length (map f segments) ≡ 19
 unfolding segments
 one_each f = refl
 
-names_each : length (map (λ s. padded s.name) segments) ≡ 19
-unfolding segments
-names_each = refl
-
 pub bytes_of : length (segment_names segments) ≡ 171
 unfolding segments joined
 bytes_of = refl
 
-flat_joined : (xs : List (List ℕ)) → flat_map (λ x. x) xs ≡ joined xs
+pub flat_joined : (xs : List (List ℕ)) → flat_map (λ x. x) xs ≡ joined xs
 unfolding joined
 flat_joined [] = refl
 flat_joined (x ∷ xs) = ap (λ l. x ++ l) (flat_joined xs)
@@ -63,13 +59,6 @@ pub lengths_read : (ys : List ℕ) → length ys ≡ 19 → ((k : ℕ) → k < 1
 lengths_read ys e f = same_number_lists ys (segment_lengths segments) (e ∙ sym (one_each (λ s. s.columns)))
     (λ k h. f k (omega arith) ∙ ap (λ (r : Row). r.length) (row_at (map made segments) k 0 refl (omega arith))
     ∙ sym (get_or-mapped (λ (s : Segment). s.columns) segments k (segment [] 0 0) 0 (omega (arith, segments-count))))
-
--- the names one after the other, from those of the rows
-pub names_joined : (ys : List (List ℕ)) → length ys ≡ 19 → ((k : ℕ) → k < 19 → get_or ys k [] ≡ padded (segment_at segments k).name)
-    → flat_map (λ y. y) ys ≡ segment_names segments
-names_joined ys e f = ap (flat_map (λ y. y)) (ext_get_or [] ys (map (λ s. padded s.name) segments) (e ∙ sym names_each)
-    (λ k h. f k (omega arith) ∙ sym (get_or-mapped (λ (s : Segment). padded s.name) segments k (segment [] 0 0) [] (omega (arith, segments-count)))))
-    ∙ flat_joined (map (λ s. padded s.name) segments)
 
 pub ends : (i c : ℕ) → 19 ≤ i → name_in (drop i segments) c ≡ segment_name c → padded [] ≡ padded (segment_name c)
 unfolding name_in
